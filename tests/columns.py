@@ -4,8 +4,9 @@
   python3 tests/columns.py --self-test   the same reader on right sources and on mutants by name, and on the project's own sources with one change
 
 No contract can tell when a list was written, so the sources are read. A limit list is a parameter `&mut [u64]` whose name ends in `bounds`, with a number behind
-it or not, and each parameter that a limit list is handed on to. A function may ask for its length, hand it on, or write one of its elements; what it writes is
-an element of an array by value, `[u64; 32]`, or of a list `&[u64]`, that was handed to it. So the numbers were all there before the first was written."""
+it or not, and each parameter that a limit list is handed on to. A function may ask for its length, hand it on, write one of its elements, or copy a part of a list
+into it; what it writes is an element or a part of an array by value, `[u64; 32]`, or of a list `&[u64]`, that was handed to it. So the numbers were all there before
+the first was written."""
 
 import re
 import sys
@@ -63,13 +64,16 @@ class Writers:
     def uses(self, function, name):
         """What a function does with a list, a fault in words each time, or None."""
         body, whole = function.body, {parameter for parameter, kind in typed(function) if kind in WHOLE}
+        each = {body[at + 2] for at, token in enumerate(body) if token == "for" and body[at + 1] == "&" and body[at + 3 : at + 5] == ["in", "&"] and body[at + 5] in whole}
         for at in (at for at, token in enumerate(body) if token == name and body[at - 1] != "."):
             if body[at + 1 : at + 3] == [".", "len"]:
                 yield None
             elif body[at + 1] == "[":
                 sign = end_of(body, at + 1)
                 value = body[sign + 1 : body.index(";", sign)]
-                is_whole = body[sign] == "=" and value[:1] and value[0] in whole and value[1:2] == ["["] and end_of(value, 1) == len(value)
+                is_element = value[:1] and value[0] in whole and value[1:2] == ["["] and end_of(value, 1) == len(value) or len(value) == 1 and value[0] in each
+                is_part = value[:3] == ["copy_from_slice", "(", "&"] and value[3] in whole and value[4] == "[" and end_of(value, 4) == len(value) - 1
+                is_whole = body[sign] == "=" and is_element or body[sign] == "." and is_part
                 self.writers |= {function.name} if is_whole else set()
                 yield None if is_whole else f"is used, or given a number that is no element of what was handed over: {' '.join(body[at:sign] + body[sign:sign + 1] + value)}"
             else:

@@ -8,6 +8,10 @@ RIGHT = {
     "an array by value": STORE + " fn check(bounds: &mut [u64], n: usize) { let column = bounds_of(n); store(bounds, column, n); }",
     "a list that is copied": "fn copy(dst: &mut [u64], src: &[u64], n: usize) { for i in 0..n { dst[i] = src[i]; } } fn check(solution_bounds1: &mut [u64], n: usize)"
     " { let limits = [0u64; 32]; copy(solution_bounds1, &limits, n); }",
+    "a list gone along": "fn store(dst: &mut [u64], column: [u64; 32], n: usize) { for &limit in &column[..n] { dst[0] = limit; } } fn check(bounds: &mut [u64], n: usize)"
+    " { store(bounds, bounds_of(n), n); }",
+    "a part that is copied": "fn copy(dst: &mut [u64], src: &[u64], n: usize) { dst[..n].copy_from_slice(&src[..n]); } fn check(bounds: &mut [u64], n: usize)"
+    " { let limits = [0u64; 32]; copy(bounds, &limits, n); }",
     "a length": STORE + " fn check(bounds: &mut [u64], c: [u64; 32]) { if bounds.len() < 32 { return; } store(bounds, c, 32); }",
     "a method": STORE + " fn check(self, bounds: &mut [u64], c: [u64; 32]) { store(bounds, c, 32); } fn through(bounds: &mut [u64], d: Desk) { d.check(bounds, d.c); }",
     "a list that is no limit list": STORE + " fn check(bounds: &mut [u64], c: [u64; 32]) { store(bounds, c, 32); } fn bias(rows: &mut [u64], x: u64) { rows[0] = x + 1; }",
@@ -17,6 +21,9 @@ MUTANTS = {
     "worked out where it is written, in a callee": "fn store(dst: &mut [u64], n: usize) { for i in 0..n { dst[i] = limit(i); } } fn check(bounds: &mut [u64], n: usize) { store(bounds, n); }",
     "an array that the writer fills": "fn check(bounds: &mut [u64], n: usize) { let mut column = [0u64; 32]; for i in 0..n { column[i] = limit(i); bounds[i] = column[i]; } }",
     "a sum of elements": "fn store(dst: &mut [u64], c: [u64; 32]) { dst[0] = c[0] + 1; } fn check(bounds: &mut [u64], c: [u64; 32]) { store(bounds, c); }",
+    "a sum of what is gone along": "fn store(dst: &mut [u64], c: [u64; 32]) { for &limit in &c[..2] { dst[0] = limit + 1; } } fn check(bounds: &mut [u64], c: [u64; 32]) { store(bounds, c); }",
+    "gone along what may change": "fn store(dst: &mut [u64], c: &mut [u64]) { for &limit in &c[..2] { dst[0] = limit; } } fn check(bounds: &mut [u64], c: [u64; 32]) { store(bounds, &mut c); }",
+    "a part of what may change": "fn copy(dst: &mut [u64], c: &mut [u64]) { dst[..2].copy_from_slice(&c[..2]); } fn check(bounds: &mut [u64], c: [u64; 32]) { copy(bounds, &mut c); }",
     "added to": "fn store(dst: &mut [u64], c: [u64; 32]) { dst[0] += c[0]; } fn check(bounds: &mut [u64], c: [u64; 32]) { store(bounds, c); }",
     "a list that may change": "fn store(dst: &mut [u64], c: &mut [u64]) { dst[0] = c[0]; } fn check(bounds: &mut [u64], c: [u64; 32]) { store(bounds, &mut c); }",
     "another name": STORE + " fn check(bounds: &mut [u64], c: [u64; 32]) { store(bounds, c, 1); let list = bounds; list[0] = 1; }",

@@ -14,7 +14,7 @@ from typing import NamedTuple
 
 from common.mutated import ROOT, close, main
 
-CRATES = ["integer", "linear", "rules", "check_biased_rows", "check_symmetry", "check_defects", "check_margins", "check_residuals", "check_allowances", "check_ratios", "check_bounds", "check_inverse_bounds", "check_lists", "dependent_coupling", "weights_steps", "half_fill", "build_lines", "build_gathering", "build_equations"]
+CRATES = ["integer", "linear", "rules", "check_biased_rows", "check_symmetry", "check_defects", "check_margins", "check_residuals", "check_allowances", "check_ratios", "check_bounds", "check_inverse_bounds", "check_lists", "dependent_coupling", "weights_spec", "weights_steps", "half_fill", "build_lines", "build_gathering", "build_equations"]
 
 TOKEN = re.compile(r"[A-Za-z_]\w*|\d\w*|::|=>|->|\.\.=|\.\.|<<=?|[-+*/%&|^]=|[-+*/%&|^<>=!]=?|[()\[\]{};:,.@#'\"«»]")
 OPEN, CLOSE = "([{", ")]}"

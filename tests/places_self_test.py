@@ -50,7 +50,7 @@ MUTANTS = {
 # The project's own sources: a file, its text and the text with a place multiplied out.
 MUTANTS_HERE = {
     "a term of the guess's residual": ("linear/src/lib.rt", "add_product(sum, a[at_a], x[at_x])", "add_product(sum, a[p + j * s], x[at_x])"),
-    "a term of biased rows": ("check_biased_rows/src/lib.rt", "        at_b += 1;", "        at_b = q + (k + 1) * 1;"),
+    "a term of biased rows": ("check_biased_rows/src/lib.rt", "low_dot(&a[p..p + n], ", "low_dot(&a[i * (n + 1)..p + n], "),
     "the start of a biased row": ("check_biased_rows/src/lib.rt", "        place += n + 1;", "        place = (i + 1) * (n + 1);"),
     "a row of the defect": ("check_margins/src/lib.rt", "margin_of(t, defects, weights, ones, n, m, row)", "margin_of(t, defects, weights, ones, n, m, m * n)"),
     "a row of the matrix": ("check_defects/src/lib.rt", "store_row(out, &mut sums, t, m, xs, start, stride, rows, n)", "store_row(out, &mut sums, t, m, xs, m * step, stride, rows, n)"),
@@ -59,9 +59,9 @@ MUTANTS_HERE = {
     "a row of p": ("check_bounds/src/lib.rt", "out[m] = magnitude(row_dot(rows, m, row, residuals, 0, 0, n))", "out[m] = magnitude(row_dot(rows, m, m * (n + 1), residuals, 0, 0, n))"),
     "a magnitude across the columns": ("check_inverse_bounds/src/lib.rt", "        across += n;", "        across = (m + 1) * n + j;"),
     "a term of the search's sums": ("weights_steps/src/lib.rt", "        place += n;", "        place = (j + 1) * n + m;"),
-    "a term handed on in the search": ("weights_steps/src/lib.rt", "weigh_at(sum, magnitudes, n, m, place, weights[j], j)", "weigh_at(sum, magnitudes, n, m, j * n + m, weights[j], j)"),
+    "a term handed on in the search": ("weights_steps/src/lib.rt", "sum += magnitudes[place] * w;", "sum += magnitudes[j * n + m] * w;"),
     "a row that is filled out": ("half_fill/src/lib.rt", "        to += n;", "        to = (i + 1) * n;"),
-    "a row of the equations": ("build_equations/src/lib.rt", "store_row(sums, width, matrix, start)", "store_row(sums, width, matrix, i * n)"),
+    "a row of the equations": ("build_equations/src/lib.rt", "store_row(&row.sums, width, matrix, start)", "store_row(&row.sums, width, matrix, i * n)"),
     "where a limit is written": ("check_bounds/src/lib.rt", "        dst[place] = column[i];", "        dst[start + i * stride] = column[i];"),
 }
 

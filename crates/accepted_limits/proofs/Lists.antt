@@ -12,8 +12,7 @@ use Rattle.linear.specs.Matrix.{Vec, Mat}
 use Rattle.linear.specs.Written.{written}
 use Rattle.linear.proofs.Places.{place, square, place_column, place_row}
 use Rattle.linear.proofs.Written.{front_at}
-use Rattle.rules.specs.Refusal.{code}
-use Rattle.rules.specs.declared.Outcome.{Outcome}
+use Rattle.rules.specs.Refusal.{code, Outcome}
 use Rattle.rules.proofs.Verdicts.{accepted_new, nothing_is_not}
 use Rattle.enclosure.specs.Problem.{Problem}
 use Rattle.enclosure.specs.Reckoning.{bound, inverse_bound}

@@ -18,9 +18,8 @@ use Rattle.enclosure.proofs.Bounds.{bound_ext}
 use Rattle.check_spec.specs.Order.{answer}
 use Rattle.dependent_spec.specs.Nets.{Nets, DependentNet, coupling_of, dependent_of}
 use Rattle.dependent_spec.specs.Reckoning.{own_problem, dependent_residual, dependent_slack, dependent_bound}
-use Rattle.dependent_spec.specs.Order.{dependent_answer, joint_answer, nets_code}
+use Rattle.dependent_spec.specs.Order.{dependent_answer, joint_answer, nets_code, CheckedNets}
 use Rattle.dependent_spec.specs.Together.{CheckedTogether}
-use Rattle.dependent_spec.specs.declared.CheckedNets.{CheckedNets}
 use Rattle.dependent_spec.proofs.Statements.{own_fit, passed_of, joint_main, joint_dependent}
 use Rattle.calls_spec.specs.TwoNets.{DependentExported}
 use Rattle.calls_spec.proofs.TwoNets.{together_zero}

@@ -7,10 +7,9 @@ use Prim.Native.Nat.{ℕ, ◌+◌}
 use lib.IntN.{ℤ}
 use Rattle.linear.proofs.Written.{written_ext}
 use Rattle.rules.specs.Order.{if_accepted}
-use Rattle.build_lines.specs.declared.Built.{Built}
+use Rattle.build_lines.specs.Order.{Built, build_code}
 use Rattle.build_lines.specs.declared.Observation.{Observation}
 use Rattle.build_lines.specs.Distinct.{built_matrix, built_right, weight_at, gain}
-use Rattle.build_lines.specs.Order.{build_code}
 use Rattle.build_gathering.specs.declared.Gathered.{Gathered}
 use Rattle.build_gathering.proofs.Whole.{gathered_of, Whole, whole}
 use Rattle.build_equations.specs.declared.Layout.{Layout}

@@ -15,8 +15,8 @@ use Rattle.linear.specs.Written as W
 use Rattle.half_fill.proofs.Places.{place_lower}
 use Rattle.rules.specs.Range as R
 use Rattle.rules.proofs.Verdicts.{accepted_new}
-use Rattle.build_lines.specs.declared.Built.{Built}
-use Rattle.build_lines.specs.declared.Built.TheVariants.{Done}
+use Rattle.build_lines.specs.Order.{Built, build_code, build_answer}
+use Rattle.std.specs.Prelude.{Ok}
 use Rattle.build_lines.specs.declared.Observation.{Observation}
 use Rattle.build_lines.specs.Distinct as D
 use Rattle.build_lines.specs.Distinct.{built_matrix, built_right}
@@ -24,7 +24,6 @@ use Rattle.build_lines.specs.Example.{net}
 use Rattle.build_lines.specs.Heights.{fixed_weight, all_weight}
 use Rattle.build_lines.specs.Line as L
 use Rattle.build_lines.specs.Order as O
-use Rattle.build_lines.specs.Order.{build_code, build_answer}
 use Rattle.build_lines.proofs.Net.{diagonal}
 use Rattle.build_equations.specs.declared.Layout.{Layout}
 use Rattle.build_equations.specs.declared.Layout.TheVariants.{Square, Lower}
@@ -56,7 +55,7 @@ diagonal_builds Square = refl
 diagonal_builds Lower = refl
 
 pub net_built : (layout : Layout) →
-    BuiltAs 2 net layout (nines 1024) (nines 32) Done (matrix_written layout 2 (built_matrix net) (nines 1024)) (right_written 2 (built_right net) (nines 32))
+    BuiltAs 2 net layout (nines 1024) (nines 32) (Ok tt) (matrix_written layout 2 (built_matrix net) (nines 1024)) (right_written 2 (built_right net) (nines 32))
 net_built layout = record { says = sym (diagonal_builds layout); matrix = sym (accepted_new _ _ (diagonal_builds layout)); right = sym (accepted_new _ _ (diagonal_builds layout)) }
 
 pub net_diagonal : (layout : Layout) → (diagonal_of layout 2 (matrix_written layout 2 (built_matrix net) (nines 1024)) ≡ pos 13) × (fixed_weight net ≡ pos 3) × (all_weight net ≡ pos 8)

@@ -11,7 +11,7 @@ use lib.ListN.{length}
 use Rattle.rules.specs.Range.{short_column}
 use Rattle.rules.proofs.Ranges.{neither_left, neither_right}
 use Rattle.half_fill.proofs.Places.{count_few}
-use Rattle.build_lines.specs.declared.Built.TheVariants.{Done}
+use Rattle.std.specs.Prelude.{Ok}
 use Rattle.build_gathering.specs.declared.Gathered.{Gathered}
 use Rattle.build_lines.specs.Order.{build_code}
 use Rattle.build_equations.specs.declared.Layout.{Layout}
@@ -36,7 +36,7 @@ pub matrix_room : (layout : Layout) (n : ℕ) (a b : List ℤ) → n ≤ 32 → 
 matrix_room layout n a b n_max e = room_as layout n (length a) n_max (neither_left (short_as layout (length a)) (short_column (length b)) e)
 
 module _ (g : Gathered) (layout : Layout) (a b : List ℤ) where
-  pub finish_done : g.progress.status ≡ Done → {a' b' : List ℤ} → a' ≡ matrix_written layout g.progress.n (kept_matrix g) a → b' ≡ right_written g.progress.n (kept_right g) b → Finished g layout a b Done a' b'
+  pub finish_done : g.progress.status ≡ Ok tt → {a' b' : List ℤ} → a' ≡ matrix_written layout g.progress.n (kept_matrix g) a → b' ≡ right_written g.progress.n (kept_right g) b → Finished g layout a b (Ok tt) a' b'
   finish_done d p q = record { says = sym (ap build_code d); matrix = p; right = q }
 
   pub finish_refused : {k : ℕ} {ks : List ℕ} → build_code g.progress.status ≡ k ∷ ks → Finished g layout a b g.progress.status a b

@@ -18,10 +18,9 @@ use Rattle.rules.specs.declared.Kind.TheVariants as kind
 use Rattle.half_fill.specs.Half.{lower_place, half_place, filled_out}
 use Rattle.half_fill.proofs.Places.{some_row, place_lower, place_swap}
 use Rattle.half_fill.proofs.Filling.{filled_at_lem}
-use Rattle.build_lines.specs.declared.Built.{Built}
+use Rattle.build_lines.specs.Order.{Built, build_code, build_answer}
 use Rattle.build_lines.specs.declared.Observation.{Observation}
 use Rattle.build_lines.specs.Distinct.{built_matrix}
-use Rattle.build_lines.specs.Order.{build_code, build_answer}
 use Rattle.build_lines.proofs.Net.{symmetric}
 use Rattle.build_equations.specs.declared.Layout.TheVariants.{Square, Lower}
 use Rattle.build_equations.specs.Written.{width_of, matrix_written}

@@ -18,10 +18,9 @@ use Rattle.rules.specs.declared.Kind.TheVariants as kind
 use Rattle.rules.proofs.AllInRange.{all_in}
 use Rattle.rules.proofs.Ranges.{size_range}
 use Rattle.rules.proofs.Verdicts.{accepted_new, accepted_old}
-use Rattle.build_lines.specs.declared.Built.{Built}
+use Rattle.build_lines.specs.Order.{Built, build_code, build_answer}
 use Rattle.build_lines.specs.declared.Observation.{Observation}
 use Rattle.build_lines.specs.Distinct.{built_matrix, built_right}
-use Rattle.build_lines.specs.Order.{build_code, build_answer}
 use Rattle.integer.specs.Among.{Among}
 use Rattle.linear.proofs.Written.{front_at, front_else, written_ext}
 use Rattle.build_lines.specs.Stated.{Admitted, Buildable}

@@ -8,10 +8,9 @@ use Rattle.std.specs.Prelude.{Bool, ◌||◌, List, ◌≡◌, ℕ, ℤ, length}
 use Rattle.rules.specs.Order.{if_accepted}
 use Rattle.rules.specs.Range.{short_matrix, short_column}
 use Rattle.half_fill.specs.Half.{short_half}
-use Rattle.build_lines.specs.declared.Built.{Built}
+use Rattle.build_lines.specs.Order.{Built, build_code, build_answer}
 use Rattle.build_lines.specs.declared.Observation.{Observation}
 use Rattle.build_lines.specs.Distinct.{built_matrix, built_right}
-use Rattle.build_lines.specs.Order.{build_code, build_answer}
 use Rattle.build_equations.specs.declared.Layout.{Layout}
 use Rattle.build_equations.specs.declared.Layout.TheVariants.{Square, Lower}
 use Rattle.build_equations.specs.Written.{matrix_written, right_written}

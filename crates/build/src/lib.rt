@@ -11,7 +11,7 @@ ghost use Rattle.build.specs.Finished.{ReadyFor, Finished};
 
 use build_equations::{Layout, write_equations};
 use build_gathering::{Gathered, Progress, add_observation, as_gathered, few_of, no_lines, open};
-use build_lines::{Built, Observation};
+use build_lines::{BuildRefusal, Observation};
 use half_fill::HALF_LENGTH;
 use rules::{COLUMN_LENGTH, MATRIX_LENGTH};
 
@@ -29,33 +29,29 @@ fn is_short_as(layout: Layout, matrix: usize) -> bool
 fn is_short(layout: Layout, matrix: usize, right: usize) -> bool
     ensures { result ≡ short_as layout matrix || short_column right }
 {
-    is_short_as(layout, matrix) | (right < COLUMN_LENGTH)
+    is_short_as(layout, matrix) || right < COLUMN_LENGTH
 }
 
 // Before any line of so many: what is said of n, their count and the lengths of the two lists, 8 first.
 pub fn begin(n: u32, lines: usize, layout: Layout, matrix: usize, right: usize) -> Progress
     ensures { result ≡ opening_progress n lines (short_as layout matrix || short_column right) }
 {
-    let short = is_short(layout, matrix, right);
-    open(n, lines, short)
+    open(n, lines, is_short(layout, matrix, right))
 }
 
 // The equations written, where nothing is said.
-pub fn finish(g: Gathered, layout: Layout, matrix: &mut [i64], right: &mut [i64]) -> Built
+pub fn finish(
+    g: Gathered,
+    layout: Layout,
+    matrix: &mut [i64],
+    right: &mut [i64],
+) -> Result<(), BuildRefusal>
     requires { ReadyFor g layout matrix.old right.old }
     ensures { Finished g layout matrix.old right.old result matrix.new right.new }
 {
-    let progress = g.progress;
-    let status = progress.status;
-    match status {
-        Built::Done => {
-            write_equations(g, layout, matrix, right);
-            Built::Done
-        }
-        Built::Refused(_) => status,
-        Built::SameMark => status,
-        Built::OtherContents => status,
-    }
+    g.progress.status?;
+    write_equations(g, layout, matrix, right);
+    Ok(())
 }
 
 // The lines one after the other; none is looked at where something is said before any, and none of a list above 256.
@@ -65,10 +61,8 @@ pub fn gather(observations: &[Observation], start: Progress) -> Gathered
     let mut progress = start;
     let mut seen = no_lines();
     let end = few_of(start, observations.len());
-    let mut i = 0;
-    while i < end {
-        progress = add_observation(progress, &mut seen, observations[i]);
-        i += 1;
+    for &l in &observations[..end] {
+        progress = add_observation(progress, &mut seen, l);
     }
     as_gathered(progress, seen)
 }
@@ -80,7 +74,7 @@ pub fn build(
     layout: Layout,
     matrix: &mut [i64],
     right: &mut [i64],
-) -> Built
+) -> Result<(), BuildRefusal>
     ensures { BuiltAs n observations.now layout matrix.old right.old result matrix.new right.new }
 {
     let start = begin(n, observations.len(), layout, matrix.len(), right.len());

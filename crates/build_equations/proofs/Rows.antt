@@ -11,6 +11,7 @@ use lib.ListN.{replicate, get_or-replicate}
 use Rattle.integer.specs.Finite.{sum}
 use Rattle.integer.proofs.Sum.{sum_none, sum_next, abs_sum≤}
 use Rattle.linear.specs.Slice.{at}
+use Rattle.build_lines.specs.declared.Observation.{Observation}
 use Rattle.build_lines.specs.Distinct.{weight_at, gain}
 use Rattle.build_lines.proofs.Net.{weight_at_magnitude, gain_magnitude}
 use Rattle.build_gathering.specs.declared.Gathered.{Gathered}
@@ -18,7 +19,7 @@ use Rattle.build_gathering.specs.Gathered.{line_at, ProperLines}
 use Rattle.build_equations.specs.declared.Row.{Row}
 use Rattle.build_equations.specs.Kept.{RowSums, Grown, SmallRow, kept_matrix, kept_right}
 
-module _ (seen : List ℕ) (k : ℕ) where
+module _ (seen : List Observation) (k : ℕ) where
   pub row_none : RowSums seen k 0 (record { sums = replicate 33 (pos 0); right = pos 0 })
   row_none = record {
     long = refl;

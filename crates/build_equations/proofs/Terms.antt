@@ -1,6 +1,5 @@
 -- Laws of what one line adds to the row of a mark.
 --   plus_fits, plus_read, minus_fits, minus_read, product_fits, product_read — the arithmetic fits, and what the machine reads back
---   join_room, right_room — a small row has room for a line more
 --   joined    — the two places that a line joins, and every other place
 --   at_to, at_from, not_at — what a line adds to the row of the mark that it leads to, that it leads from, and of any other mark
 --   grown_to, grown_from — so for a whole row;  same_row — a line at other marks adds nothing
@@ -26,7 +25,7 @@ use Rattle.build_lines.specs.declared.Observation.{Observation}
 use Rattle.build_lines.specs.Distinct.{when, touches, weight_at, gain}
 use Rattle.build_gathering.specs.Gathered.{Proper}
 use Rattle.build_equations.specs.declared.Row.{Row}
-use Rattle.build_equations.specs.Kept.{Grown, SmallRow}
+use Rattle.build_equations.specs.Kept.{Grown}
 
 -- ---- machine numbers
 module _ {a b x y : ℤ} (p : x ≡ a) (q : y ≡ b) (h : nat_abs a ≤ 2 ^ 31) (k : nat_abs b ≤ 2 ^ 31) where
@@ -55,16 +54,6 @@ module _ (l : Observation) (proper : Proper l) where
 
     pub product_read : to_z w64 (of_z w64 (a *ℤ b)) ≡ weighted_difference l
     product_read = to_z-of_z w64 (a *ℤ b) product_fits ∙ rw (p, q)
-
--- ---- a small row
-module _ (row : Row) (room : SmallRow row) (l : Observation) (proper : Proper l) where
-  pub join_room : (k other : ℕ) → k ≤ 32 → other ≤ 32 → {w : ℤ} → w ≡ pos l.weight →
-      ((k ≤ 32) × (other ≤ 32)) × ((nat_abs (at row.sums k) ≤ 2 ^ 31) × ((nat_abs (at row.sums other) ≤ 2 ^ 31) × (nat_abs w ≤ 2 ^ 31)))
-  join_room k other p q e =
-      ((p, q), (omega (arith, room.sums k p), (omega (arith, room.sums other q), rw e (omega (arith, proper.weight)))))
-
-  pub right_room : {a b : ℤ} → a ≡ row.right → b ≡ weighted_difference l → (nat_abs a ≤ 2 ^ 31) × (nat_abs b ≤ 2 ^ 31)
-  right_room p q = (rw p (omega (arith, room.right)), rw q (omega (arith, product_magnitude l proper)))
 
 -- ---- what a line adds
 -- the place k and the other one, of a line with weight w

@@ -19,7 +19,7 @@ kept_matrix g i j = kept_sum (weight_at (i + 1) (j + 1)) g
 abbrev pub kept_right : Gathered → Vec
 kept_right g i = kept_sum (gain (i + 1)) g
 
-pub record RowSums (seen : List ℕ) (k p : ℕ) (r : Row) : Type 0 where
+pub record RowSums (seen : List Observation) (k p : ℕ) (r : Row) : Type 0 where
   pub long : length r.sums ≡ 33
   pub sums : (m : ℕ) → m ≤ 32 → at r.sums m ≡ sum p (λ (i : ℕ). weight_at k m (line_at seen i))
   pub right : r.right ≡ sum p (λ (i : ℕ). gain k (line_at seen i))

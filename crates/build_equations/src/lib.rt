@@ -10,7 +10,7 @@ ghost use Rattle.build_gathering.specs.Gathered.{Proper, ProperLines, Ready};
 ghost use Rattle.build_equations.specs.Written.{width_of, matrix_written, right_written};
 ghost use Rattle.build_equations.specs.Kept.{SmallRow, RowSums, Grown, kept_matrix, kept_right};
 
-use build_gathering::{Gathered, line_at};
+use build_gathering::Gathered;
 use build_lines::Observation;
 
 // How a matrix is laid out: row after row, whole rows or the lower half.
@@ -27,53 +27,25 @@ pub struct Row {
     pub right: i64,
 }
 
-fn plus(a: i64, b: i64) -> i64
-    requires { (nat_abs a ≤ 2 ^ 31) × (nat_abs b ≤ 2 ^ 31) }
-    ensures { result ≡ a +ℤ b }
-{
-    a + b
-}
-
-fn minus(a: i64, b: i64) -> i64
-    requires { (nat_abs a ≤ 2 ^ 31) × (nat_abs b ≤ 2 ^ 31) }
-    ensures { result ≡ a -ℤ b }
-{
-    a - b
-}
-
-fn weight_of(l: Observation) -> i64
-    ensures { result ≡ pos l.weight }
-{
-    l.weight as i64
-}
-
-fn product_of(l: Observation) -> i64
-    requires { Proper l }
-    ensures { result ≡ pos l.weight *ℤ l.difference }
-{
-    weight_of(l) * l.difference
-}
-
+// Whether a line is at a mark.
 fn is_at(l: Observation, k: u32) -> bool
     ensures { result ≡ touches k l }
 {
-    (l.from == k) | (l.to == k)
+    l.from == k || l.to == k
 }
 
 // The weight of a line that joins k to another mark: added on the diagonal, taken from the place of the other.
-fn join(sums: [i64; 33], k: u32, other: u32, weight: i64) -> [i64; 33]
+fn join(mut sums: [i64; 33], k: u32, other: u32, weight: i64) -> [i64; 33]
     requires k_bound { (k ≤ 32) × (other ≤ 32) }
     requires k_bound_2 { (nat_abs (at sums k) ≤ 2 ^ 31) × ((nat_abs (at sums other) ≤ 2 ^ 31) × (nat_abs weight ≤ 2 ^ 31)) }
     ensures { result ≡ set (set sums k (at sums k +ℤ weight)) other (at sums other -ℤ weight) }
 {
     let i = k as usize;
     let j = other as usize;
-    let diagonal = plus(sums[i], weight);
-    let beside = minus(sums[j], weight);
-    let mut out = sums;
-    out[i] = diagonal;
-    out[j] = beside;
-    out
+    let beside = sums[j] - weight;
+    sums[i] += weight;
+    sums[j] = beside;
+    sums
 }
 
 // What a line at mark k adds to the row of k.
@@ -82,23 +54,22 @@ fn grow(row: Row, k: u32, l: Observation) -> Row
     requires l_value { touches k l ≡ true }
     ensures { Grown k l row result }
 {
-    let sums = row.sums;
-    let weight = weight_of(l);
-    let product = product_of(l);
+    let weight = l.weight as i64;
+    let product = weight * l.difference;
     if l.to == k {
         return Row {
-            sums: join(sums, k, l.from, weight),
-            right: plus(row.right, product),
+            sums: join(row.sums, k, l.from, weight),
+            right: row.right + product,
         };
     }
     Row {
-        sums: join(sums, k, l.to, weight),
-        right: minus(row.right, product),
+        sums: join(row.sums, k, l.to, weight),
+        right: row.right - product,
     }
 }
 
 // The row of a mark, summed over the kept lines.
-fn row_of(seen: &[u32; 1280], count: usize, k: u32) -> Row
+fn row_of(seen: &[Observation; 256], count: usize, k: u32) -> Row
     requires { (k ≤ 32) × ProperLines seen.now count }
     ensures { RowSums seen.now k count result }
 {
@@ -106,8 +77,7 @@ fn row_of(seen: &[u32; 1280], count: usize, k: u32) -> Row
         sums: [0i64; 33],
         right: 0,
     };
-    for p in 0..count {
-        let l = line_at(seen, p);
+    for &l in &seen[..count] {
         if is_at(l, k) {
             row = grow(row, k, l);
         }
@@ -116,13 +86,11 @@ fn row_of(seen: &[u32; 1280], count: usize, k: u32) -> Row
 }
 
 // Writes the sums at marks 1, 2, .. width from an index on.
-fn store_row(sums: [i64; 33], width: usize, dst: &mut [i64], start: usize)
+fn store_row(sums: &[i64; 33], width: usize, dst: &mut [i64], start: usize)
     requires { (width ≤ 32) × (start + width ≤ length dst.old) }
-    ensures { dst.new ≡ written dst.old start 1 (λ (j : ℕ). at sums (j + 1)) width }
+    ensures { dst.new ≡ written dst.old start 1 (λ (j : ℕ). at sums.now (j + 1)) width }
 {
-    for j in 0..width {
-        dst[start + j] = sums[j + 1];
-    }
+    dst[start..start + width].copy_from_slice(&sums[1..width + 1]);
 }
 
 fn width_of(layout: Layout, n: usize, i: usize) -> usize
@@ -141,24 +109,20 @@ fn count_of(n: u32) -> usize
     n as usize
 }
 
-// Writes the equations of the kept lines, row after row.
+// Writes the equations of the kept lines, row after row. The loop counts i because a row is that of mark i + 1 and its width depends on i.
 pub fn write_equations(g: Gathered, layout: Layout, matrix: &mut [i64], right: &mut [i64])
     requires ready { Ready g }
     requires n_in_bounds { (sumℕ g.progress.n (width_of layout g.progress.n) ≤ length matrix.old) × (g.progress.n ≤ length right.old) }
     ensures { (matrix.new ≡ matrix_written layout g.progress.n (kept_matrix g) matrix.old)
         × (right.new ≡ right_written g.progress.n (kept_right g) right.old) }
 {
-    let progress = g.progress;
-    let seen = g.seen;
-    let n = count_of(progress.n);
+    let n = count_of(g.progress.n);
     let mut start = 0;
     for i in 0..n {
-        let row = row_of(&seen, progress.count, (i + 1) as u32);
-        let sums = row.sums;
+        let row = row_of(&g.seen, g.progress.count, (i + 1) as u32);
         let width = width_of(layout, n, i);
-        store_row(sums, width, matrix, start);
-        let b = row.right;
-        right[i] = b;
+        store_row(&row.sums, width, matrix, start);
+        right[i] = row.right;
         start += width;
     }
 }

@@ -12,19 +12,20 @@ use Rattle.integer.specs.Finite.{first}
 use Rattle.rules.specs.Range.{in_range}
 use Rattle.rules.specs.declared.Kind.TheVariants as kind
 use Rattle.rules.specs.declared.Refusal.TheVariants.{OutOfRange, TooShort}
-use Rattle.build_lines.specs.declared.Built.{Built}
-use Rattle.build_lines.specs.declared.Built.TheVariants.{Done, Refused, SameMark, OtherContents}
+use Rattle.build_lines.specs.Order.{Built}
+use Rattle.build_lines.specs.declared.BuildRefusal.TheVariants.{Refused, SameMark, OtherContents}
+use Rattle.std.specs.Prelude.{Ok, Err}
 use Rattle.build_gathering.specs.declared.Gathered.{Gathered}
 use Rattle.build_lines.specs.declared.Observation.{Observation}
 use Rattle.build_lines.specs.Line.{outside_range, same_contents}
 use Rattle.build_gathering.specs.Gathered.{places, key_at, line_at, with_lines, refused_as, kept, taken, added, opened_as, is_refused}
 
 module _ (g : Gathered) (l : Observation) {r : Gathered} where
-  pub taken_outside : outside_range g.progress.n l ≡ true → r ≡ refused_as g (Refused OutOfRange) → r ≡ taken g l
+  pub taken_outside : outside_range g.progress.n l ≡ true → r ≡ refused_as g (Err (Refused OutOfRange)) → r ≡ taken g l
   unfolding taken
   taken_outside o e = rw o e
 
-  pub taken_same : outside_range g.progress.n l ≡ false → l.«from» ≡ l.to → r ≡ refused_as g SameMark → r ≡ taken g l
+  pub taken_same : outside_range g.progress.n l ≡ false → l.«from» ≡ l.to → r ≡ refused_as g (Err SameMark) → r ≡ taken g l
   unfolding taken
   taken_same o s e = rw (o, eq-eqb _ _ s) e
 
@@ -33,7 +34,7 @@ module _ (g : Gathered) (l : Observation) {r : Gathered} where
     unfolding taken
     taken_again m c e = rw (o, ne_eqb _ _ s, ← p, ← q, lt-ltb at end m, c) e
 
-    pub taken_clash : at < end → same_contents (line_at g.seen at) l ≡ false → r ≡ refused_as g OtherContents → r ≡ taken g l
+    pub taken_clash : at < end → same_contents (line_at g.seen at) l ≡ false → r ≡ refused_as g (Err OtherContents) → r ≡ taken g l
     unfolding taken
     taken_clash m c e = rw (o, ne_eqb _ _ s, ← p, ← q, lt-ltb at end m, c) e
 
@@ -49,10 +50,10 @@ pub added_refused : (g : Gathered) (l : Observation) → is_refused g.progress.s
 unfolding added
 added_refused g l d = rw d
 
-pub opened_short : (n k : ℕ) {short : Bool} → short ≡ true → Refused TooShort ≡ opened_as n k short
+pub opened_short : (n k : ℕ) {short : Bool} → short ≡ true → Err (Refused TooShort) ≡ opened_as n k short
 unfolding opened_as
 opened_short n k s = rw s
 
-pub opened_as_lem : (n k : ℕ) {short b : Bool} {t : Built} → short ≡ false → b ≡ in_range kind.Size (pos n) → cond (b && leb k 256) Done (Refused OutOfRange) ≡ t → t ≡ opened_as n k short
+pub opened_as_lem : (n k : ℕ) {short b : Bool} {t : Built} → short ≡ false → b ≡ in_range kind.Size (pos n) → cond (b && leb k 256) (Ok tt) (Err (Refused OutOfRange)) ≡ t → t ≡ opened_as n k short
 unfolding opened_as
 opened_as_lem n k s e d = rw (s, ← e, d)

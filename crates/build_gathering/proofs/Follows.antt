@@ -13,18 +13,16 @@ use lib.ListN.{length}
 use Rattle.integer.specs.Finite.{sum}
 use Rattle.integer.proofs.Search.{upto}
 use Rattle.integer.proofs.Sum.{sum_next, sum_ext}
-use Rattle.build_lines.specs.declared.Built.{Built}
-use Rattle.build_lines.specs.declared.Built.TheVariants.{Done}
+use Rattle.build_lines.specs.Order.{Built, build_code, observation_says}
+use Rattle.std.specs.Prelude.{Ok}
 use Rattle.build_gathering.specs.declared.Gathered.{Gathered}
 use Rattle.build_lines.specs.declared.Observation.{Observation}
 use Rattle.build_lines.specs.Line.{has_key}
-use Rattle.build_lines.specs.Order.{build_code, observation_says}
 use Rattle.build_gathering.specs.Gathered.{places, with_line, together, counted, refused_as, kept, added, kept_at, kept_sum}
 use Rattle.integer.specs.Among.{Among, here, there}
 use Rattle.build_lines.specs.Stated.{Passes}
 use Rattle.build_lines.proofs.Members.{key_here, key_none, clash_free, either}
 use Rattle.build_lines.proofs.Lines.{line_good}
-use Rattle.build_lines.proofs.Marks.{inside_line}
 use Rattle.build_lines.proofs.Repeat.{share, share_met, share_new}
 use Rattle.build_gathering.proofs.Places.{with_length, with_other, with_same}
 
@@ -36,8 +34,8 @@ pub record MetLine (g : Gathered) (e : Observation) : Type 0 where
 
 pub record Follows (n : ℕ) (es : List Observation) (g : Gathered) : Type 0 where
   pub size : g.progress.n ≡ n
-  pub done : g.progress.status ≡ Done
-  pub long : length g.seen ≡ 1280
+  pub done : g.progress.status ≡ Ok tt
+  pub long : length g.seen ≡ 256
   pub count_max : g.progress.count ≤ 256
   pub lines : g.progress.lines ≡ length es
   pub among : (p : ℕ) → p < g.progress.count → Among (kept_at g p) es
@@ -89,10 +87,10 @@ module _ (n : ℕ) (es : List Observation) (g : Gathered) (l : Observation) (fol
   kept_as = rw (← all, lt-ltb g.progress.count 256 room)
 
   old : (p : ℕ) → p < g.progress.count → kept_at grown p ≡ kept_at g p
-  old p h = with_other g.seen g.progress.count l room p (omega arith) (λ e. omega (arith, e))
+  old p h = with_other g.seen g.progress.count l p (λ e. omega (arith, e))
 
-  last : Passes n l → kept_at grown g.progress.count ≡ l
-  last good = with_same g.seen g.progress.count l fol.long room (inside_line n l good.inside).difference
+  last : kept_at grown g.progress.count ≡ l
+  last = with_same g.seen g.progress.count l fol.long room
 
   pub new : Passes n l → has_key es l.key ≡ false → added g l ≡ grown → LineStep n es g l
   new good h a =
@@ -103,8 +101,8 @@ module _ (n : ℕ) (es : List Observation) (g : Gathered) (l : Observation) (fol
         long = with_length g.seen g.progress.count l ∙ fol.long;
         count_max = omega arith;
         lines = next;
-        among = λ p b. upto (λ (q : ℕ). Among (kept_at grown q) (l ∷ es)) g.progress.count p (omega arith) (λ q c. rw (old q c) (there (fol.among q c))) (rw (last good) here);
-        met = λ d j. either j (λ p. record { index = g.progress.count; below = omega arith; is = last good ∙ sym p }) (λ k. let m = fol.met d k in record { index = m.index; below = omega (arith, m.below); is = old m.index m.below ∙ m.is });
+        among = λ p b. upto (λ (q : ℕ). Among (kept_at grown q) (l ∷ es)) g.progress.count p (omega arith) (λ q c. rw (old q c) (there (fol.among q c))) (rw last here);
+        met = λ d j. either j (λ p. record { index = g.progress.count; below = omega arith; is = last ∙ sym p }) (λ k. let m = fol.met d k in record { index = m.index; below = omega (arith, m.below); is = old m.index m.below ∙ m.is });
         one = one;
         good = λ x j. either j (λ p. subst (Passes n) (sym p) good) (fol.good x);
       }))
@@ -119,4 +117,4 @@ module _ (n : ℕ) (es : List Observation) (g : Gathered) (l : Observation) (fol
       sums : (f : Observation → ℤ) → sum g.progress.count (λ (p : ℕ). f (kept_at grown p)) +ℤ f (kept_at grown g.progress.count) ≡ kept_sum f g +ℤ share f es l
       sums f =
           ap (λ (z : ℤ). z +ℤ f (kept_at grown g.progress.count)) (sum_ext g.progress.count (λ (p : ℕ). f (kept_at grown p)) (λ (p : ℕ). f (kept_at g p)) (λ p b. ap f (old p b)))
-          ∙ ap (λ (z : ℤ). kept_sum f g +ℤ z) (ap f (last good) ∙ sym (share_new f es l h))
+          ∙ ap (λ (z : ℤ). kept_sum f g +ℤ z) (ap f last ∙ sym (share_new f es l h))

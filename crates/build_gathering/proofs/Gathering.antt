@@ -10,15 +10,15 @@ use native.Mathlib.Omega.{arith}
 use lib.IntN.{ℤ, ◌+ℤ◌, +ℤ_assoc, +ℤ_idr}
 use lib.ListN.{length, get_or}
 use Rattle.rules.proofs.Verdicts.{nothing_is_not}
-use Rattle.build_lines.specs.declared.Built.{Built}
-use Rattle.build_lines.specs.declared.Built.TheVariants.{Done, Refused, SameMark, OtherContents}
+use Rattle.build_lines.specs.Order.{Built, build_code, observations_say}
+use Rattle.build_lines.specs.declared.BuildRefusal.TheVariants.{Refused, SameMark, OtherContents}
+use Rattle.std.specs.Prelude.{Ok, Err}
 use Rattle.build_gathering.specs.declared.Gathered.{Gathered}
 use Rattle.build_lines.specs.declared.Observation.{Observation}
 use Rattle.build_lines.specs.Line.{no_observation}
-use Rattle.build_lines.specs.Order.{build_code, observations_say}
 use Rattle.build_lines.specs.Refused.{refused_from}
 use Rattle.build_lines.specs.Distinct.{distinct_after, total}
-use Rattle.build_gathering.specs.Gathered.{saying, counted, refused_as, is_refused, taken, added, when_done, line_number_of, gathered, few, kept_at, kept_sum}
+use Rattle.build_gathering.specs.Gathered.{saying, counted, refused_as, is_refused, taken, added, when_done, line_number_of, gathered, kept_at, kept_sum}
 use Rattle.build_lines.specs.Stated.{Passes}
 use Rattle.build_lines.proofs.Repeat.{share, first}
 use Rattle.build_gathering.proofs.Follows.{Follows, LineStep, refused, passed}
@@ -41,10 +41,10 @@ gathered_folded g (l ∷ ls) = gathered_front g l ls (length ls) ∙ gathered_fo
 
 -- ---- after a refusal nothing changes
 pub old : (b : Built) {k : ℕ} {ks : List ℕ} (x y : Gathered) → build_code b ≡ k ∷ ks → when_done b x y ≡ y
-old Done x y e = absurd (nothing_is_not (sym e))
-old (Refused r) x y e = refl
-old SameMark x y e = refl
-old OtherContents x y e = refl
+old (Ok tt) x y e = absurd (nothing_is_not (sym e))
+old (Err (Refused r)) x y e = refl
+old (Err SameMark) x y e = refl
+old (Err OtherContents) x y e = refl
 
 still : (g : Gathered) (ls : List Observation) {k : ℕ} {ks : List ℕ} → build_code g.progress.status ≡ k ∷ ks → folded g ls ≡ g
 unfolding folded added
@@ -53,10 +53,10 @@ still g (l ∷ ls) e = ap (λ (z : Gathered). folded z ls) (old g.progress.statu
 
 -- ---- the line that is refused
 line_refused : (t : Built) {k : ℕ} {ks : List ℕ} (j : ℕ) → build_code t ≡ k ∷ ks → j < 256 → cond (is_refused t) (min (j + 1) 256) 0 ≡ j + 1
-line_refused Done j e h = absurd (nothing_is_not (sym e))
-line_refused (Refused r) j e h = omega arith
-line_refused SameMark j e h = omega arith
-line_refused OtherContents j e h = omega arith
+line_refused (Ok tt) j e h = absurd (nothing_is_not (sym e))
+line_refused (Err (Refused r)) j e h = omega arith
+line_refused (Err SameMark) j e h = omega arith
+line_refused (Err OtherContents) j e h = omega arith
 
 -- ---- the lines that are left
 pub record GatheringAs (n : ℕ) (es ls : List Observation) (g r : Gathered) : Type 0 where

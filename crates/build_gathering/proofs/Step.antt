@@ -9,7 +9,8 @@ use borrow.Author.Tests.{eqb-true, eqb-false, eq-eqb, ne_eqb}
 use lib.Dec.{eqb}
 use Rattle.integer.proofs.Search.{Searched, found, nowhere, searched, clash}
 use Rattle.rules.specs.declared.Refusal.TheVariants.{OutOfRange}
-use Rattle.build_lines.specs.declared.Built.TheVariants.{Refused, SameMark, OtherContents}
+use Rattle.build_lines.specs.declared.BuildRefusal.TheVariants.{Refused, SameMark, OtherContents}
+use Rattle.std.specs.Prelude.{Err}
 use Rattle.build_gathering.specs.declared.Gathered.{Gathered}
 use Rattle.build_lines.specs.declared.Observation.{Observation}
 use Rattle.build_lines.specs.Line.{outside_range, same_mark, same_contents, has_key}
@@ -46,7 +47,7 @@ module _ (n : ℕ) (es : List Observation) (g : Gathered) (l : Observation) (fol
           contents : (c : Bool) → same_contents (kept_at g i) l ≡ c → LineStep n es g l
           contents true c = again n es g l fol room early i b (same_line (kept_at g i) l key c) good (taken_is (taken_again (counted g) l (own good.inside) good.apart (all n es g l fol room early) (sym e) b c refl))
           contents false c =
-              refused OtherContents 17 [] refl (taken_is (taken_clash (counted g) l (own good.inside) good.apart (all n es g l fol room early) (sym e) b c refl))
+              refused (Err OtherContents) 17 [] refl (taken_is (taken_clash (counted g) l (own good.inside) good.apart (all n es g l fol room early) (sym e) b c refl))
               (rw (good.inside, ne_eqb l.«from» l.to good.apart, clash_here es l (kept_at g i) (fol.among i b) key (λ q. clash (same_contents l l) (line_same l) (rw q at c))))
       search good (nowhere e h) =
           new n es g l fol room early good (none (has_key es l.key) refl) (taken_is (sym (kept_as n es g l fol room early) ∙ taken_new (counted g) l (own good.inside) good.apart (all n es g l fol room early) refl (omega arith) refl))
@@ -59,6 +60,6 @@ module _ (n : ℕ) (es : List Observation) (g : Gathered) (l : Observation) (fol
               absurd (clash (test m.index) (eq-eqb (key_at g.seen m.index) l.key (key_of m.index m.is ∙ x.key)) (h m.index m.below))
 
       at : (o : Bool) → outside_range n l ≡ o → (s : Bool) → same_mark l ≡ s → LineStep n es g l
-      at true o s p = refused (Refused OutOfRange) 3 [] refl (taken_is (taken_outside (counted g) l (own o) refl)) (rw o)
-      at false o true p = refused SameMark 16 [] refl (taken_is (taken_same (counted g) l (own o) (eqb-true l.«from» l.to p) refl)) (rw (o, p))
+      at true o s p = refused (Err (Refused OutOfRange)) 3 [] refl (taken_is (taken_outside (counted g) l (own o) refl)) (rw o)
+      at false o true p = refused (Err SameMark) 16 [] refl (taken_is (taken_same (counted g) l (own o) (eqb-true l.«from» l.to p) refl)) (rw (o, p))
       at false o false p = search (record { inside = o; apart = eqb-false l.«from» l.to p }) (searched g.progress.count test)

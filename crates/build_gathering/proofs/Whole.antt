@@ -1,11 +1,11 @@
 -- What is gathered of a whole list, from `opened`, over the lines that are looked at.
 --   gathered_of n ls short — the lines ls gathered, short being whether a lent list is too short;  Whole, whole — what is said, and of which line; where nothing is, that
 --   no list is too short, the kept lines are sound, and their sums are those of the distinct lines
---   gathered_none, gathered_next, gathered_end, few_below — for the loop over the lines
+--   gathered_none, gathered_next, gathered_end, few_within — for the loop over the lines
 use mathlib.Core.Path.{◌≡◌, refl, sym, ap, subst, ◌∙◌}
 use mathlib.Core.Bool.{Bool, true, false, not, cond, ◌&&◌}
 use mathlib.Core.List.{List, [], ◌∷◌}
-use Prim.Native.Nat.{ℕ, zero, suc, ◌+◌, ◌≤◌, ◌<◌}
+use Prim.Native.Nat.{ℕ, zero, suc, ◌+◌, ◌≤◌}
 use native.Mathlib.Nat.{le_antisymm}
 use native.Mathlib.Numerals.{add-one}
 use native.Mathlib.Omega.{arith}
@@ -21,12 +21,12 @@ use Rattle.rules.specs.declared.Kind.TheVariants as kind
 use Rattle.rules.specs.declared.Refusal.TheVariants.{OutOfRange, TooShort}
 use Rattle.rules.proofs.Ranges.{size_range}
 use Rattle.rules.proofs.Verdicts.{nothing_is_not}
-use Rattle.build_lines.specs.declared.Built.{Built}
-use Rattle.build_lines.specs.declared.Built.TheVariants.{Done, Refused}
+use Rattle.build_lines.specs.Order.{Built, build_code, observations_say, open_order, build_answer}
+use Rattle.build_lines.specs.declared.BuildRefusal.TheVariants.{Refused}
+use Rattle.std.specs.Prelude.{Ok, Err}
 use Rattle.build_gathering.specs.declared.Gathered.{Gathered}
 use Rattle.build_lines.specs.declared.Observation.{Observation}
 use Rattle.build_lines.specs.Line.{no_observation}
-use Rattle.build_lines.specs.Order.{build_code, observations_say, open_order, build_answer}
 use Rattle.build_lines.specs.Refused.{refused_from, build_line}
 use Rattle.build_lines.specs.Distinct.{distinct, total}
 use Rattle.build_gathering.specs.Gathered.{counted, is_refused, taken, added, line_number_of, gathered, few, opened_as, opening_progress, no_lines, opened, kept_at, kept_sum, Proper, ReadyWhenDone}
@@ -43,16 +43,16 @@ unfolding gathered added
 still_at g ls zero e = refl
 still_at g ls (suc k) e = ap (λ (z : Gathered). added z (get_or ls k no_observation)) (still_at g ls k e) ∙ old g.progress.status (taken (counted g) (get_or ls k no_observation)) g e
 
-few_all : (k : ℕ) → k ≤ 256 → few Done k ≡ k
+few_all : (k : ℕ) → k ≤ 256 → few (Ok tt) k ≡ k
 unfolding few
 few_all k h = rw (le-leb k 256 h)
 
-begun : (n k : ℕ) (short : Bool) → (opened n k short).progress.status ≡ Done → Follows n [] (opened n k short)
+begun : (n k : ℕ) (short : Bool) → (opened n k short).progress.status ≡ Ok tt → Follows n [] (opened n k short)
 unfolding opening_progress no_lines
 begun n k short d = record {
   size = refl;
   done = d;
-  long = length-replicate {A = ℕ} 1280 0;
+  long = length-replicate {A = Observation} 256 no_observation;
   count_max = omega arith;
   lines = refl;
   among = λ p b. absurd (omega arith);
@@ -67,7 +67,7 @@ proper_of n l few good =
     record { start = omega (arith, i.start, few); end = omega (arith, i.end, few); apart = good.apart; weight = i.weight; difference = i.difference }
 
 -- ---- before any line: 8 first, then 3 for n, then 3 for a list above 256
-few_or_many : (s z m l : Bool) → not m ≡ l → build_code (cond s (Refused TooShort) (cond (z && m) Done (Refused OutOfRange))) ≡ cond s (8 ∷ []) (cond (not z) (3 ∷ []) (cond l (3 ∷ []) []))
+few_or_many : (s z m l : Bool) → not m ≡ l → build_code (cond s (Err (Refused TooShort)) (cond (z && m) (Ok tt) (Err (Refused OutOfRange)))) ≡ cond s (8 ∷ []) (cond (not z) (3 ∷ []) (cond l (3 ∷ []) []))
 few_or_many true z m l e = refl
 few_or_many false false m l e = refl
 few_or_many false true true l e = rw (sym e)
@@ -85,7 +85,7 @@ module _ (n k : ℕ) (short : Bool) where
   unfolding opening_progress opened_as
   opening_says = few_or_many short (in_range kind.Size (pos n)) (leb k 256) (ltb 256 k) many
 
-  opening_done : Admitted n k short → (opened n k short).progress.status ≡ Done
+  opening_done : Admitted n k short → (opened n k short).progress.status ≡ Ok tt
   unfolding opening_progress opened_as
   opening_done u = rw (u.long, u.size, le-leb k 256 u.count_max)
 
@@ -119,7 +119,7 @@ module _ (n : ℕ) (ls : List Observation) (short : Bool) where
     pub says : build_code gathered_of.progress.status ≡ build_answer n ls short
     pub line : line_number_of gathered_of ≡ build_line n ls short
     pub size : gathered_of.progress.n ≡ n
-    pub long : gathered_of.progress.status ≡ Done → short ≡ false
+    pub long : gathered_of.progress.status ≡ Ok tt → short ≡ false
     pub sound : ReadyWhenDone gathered_of
     pub sums : build_code gathered_of.progress.status ≡ [] → (f : Observation → ℤ) → kept_sum f gathered_of ≡ total f (distinct ls)
 
@@ -181,11 +181,11 @@ module _ (g : Gathered) (ls : List Observation) where
   pub gathered_end : {i n : ℕ} → i ≤ n → n ≤ i → gathered g ls i ≡ gathered g ls n
   gathered_end p q = ap (gathered g ls) (le_antisymm p q)
 
-pub few_below : (t : Built) (n : ℕ) {i : ℕ} → i < few t n → i < n
+pub few_within : (t : Built) (n : ℕ) → few t n ≤ n
 unfolding few
-few_below t n h = go (is_refused t) (leb n 256) h
+few_within t n = go (is_refused t) (leb n 256)
   where
-    go : {i : ℕ} (r b : Bool) → i < cond r 0 (cond b n 0) → i < n
-    go true b h = absurd (omega arith)
-    go false true h = h
-    go false false h = absurd (omega arith)
+    go : (r b : Bool) → cond r 0 (cond b n 0) ≤ n
+    go true b = omega arith
+    go false true = omega arith
+    go false false = omega arith

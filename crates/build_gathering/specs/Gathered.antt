@@ -1,6 +1,6 @@
 -- What the adder does, line by line; cited by the contracts of the code alone. The contract of the builder does not speak of it.
 --   places c, key_at seen i — the count of kept lines, at most 256; the key of a kept line
---   line_at seen p, with_line seen p l — the line kept at p, and what is kept with l there: key, from, to, difference from the lowest one on and weight, 256 places apart
+--   line_at seen p, with_line seen p l — the line kept at p, and what is kept with l there
 --   together p seen — what is gathered, of its two parts
 --   met_at g l   — the first kept line that has the key of l
 --   with_lines g k, counted g — g with k lines looked at, and with one more;  line_number_of g — the number, from 1, of the line that is refused; 0 where none is
@@ -12,13 +12,13 @@
 --   kept_at g p  — the kept line p;  kept_sum f g — the sum of f over the kept lines
 --   Proper l    — the numbers of l are small enough for the sums, and its marks are two;  ProperLines seen c — the first c lines that are kept are proper
 --   Ready g     — n and the count are in their ranges, and the kept lines are proper;  ReadyWhenDone g — so where nothing is said
-use Rattle.std.specs.Prelude.{Bool, true, false, cond, ◌&&◌, List, ◌≡◌, ℕ, zero, suc, ◌+◌, ◌≤◌, ◌<◌, ◌^◌, min, eqb, ltb, leb, ℤ, pos, nat_abs, ◌+ℤ◌, ◌-ℤ◌, get_or, set, replicate}
+use Rattle.std.specs.Prelude.{Bool, cond, ◌&&◌, List, ◌≡◌, ℕ, zero, suc, ◌+◌, ◌≤◌, ◌<◌, ◌^◌, min, eqb, ltb, leb, ℤ, pos, nat_abs, get_or, set, replicate, Ok, Err, is_err}
 use Rattle.integer.specs.Finite.{sum, first}
 use Rattle.rules.specs.Range.{in_range}
 use Rattle.rules.specs.declared.Kind.TheVariants as kind
 use Rattle.rules.specs.declared.Refusal.TheVariants.{OutOfRange, TooShort}
-use Rattle.build_lines.specs.declared.Built.{Built}
-use Rattle.build_lines.specs.declared.Built.TheVariants.{Done, Refused, SameMark, OtherContents}
+use Rattle.build_lines.specs.Order.{Built}
+use Rattle.build_lines.specs.declared.BuildRefusal.TheVariants.{Refused, SameMark, OtherContents}
 use Rattle.build_gathering.specs.declared.Gathered.{Gathered}
 use Rattle.build_gathering.specs.declared.Progress.{Progress}
 use Rattle.build_lines.specs.declared.Observation.{Observation}
@@ -27,23 +27,16 @@ use Rattle.build_lines.specs.Line.{no_observation, outside_range, same_mark, sam
 abbrev pub places : ℕ → ℕ
 places c = min c 256
 
-abbrev pub key_at : List ℕ → ℕ → ℕ
-key_at seen i = get_or seen i 0
+unfoldable pub line_at : List Observation → ℕ → Observation
+line_at seen p = get_or seen p no_observation
 
-unfoldable pub line_at : List ℕ → ℕ → Observation
-line_at seen p = record {
-  key = key_at seen p;
-  «from» = get_or seen (256 + p) 0;
-  to = get_or seen (512 + p) 0;
-  difference = pos (get_or seen (768 + p) 0) -ℤ pos 65536;
-  weight = get_or seen (1024 + p) 0;
-}
+abbrev pub key_at : List Observation → ℕ → ℕ
+key_at seen i = (line_at seen i).key
 
-unfoldable pub with_line : List ℕ → ℕ → Observation → List ℕ
-with_line seen p l =
-    set (set (set (set (set seen p l.key) (256 + p) l.«from») (512 + p) l.to) (768 + p) (nat_abs (l.difference +ℤ pos 65536))) (1024 + p) l.weight
+unfoldable pub with_line : List Observation → ℕ → Observation → List Observation
+with_line seen p l = set seen p l
 
-abbrev pub together : Progress → List ℕ → Gathered
+abbrev pub together : Progress → List Observation → Gathered
 together p seen = record { progress = p; seen = seen }
 
 abbrev pub met_at : Gathered → Observation → ℕ
@@ -69,17 +62,14 @@ kept g l =
 
 unfoldable pub taken : Gathered → Observation → Gathered
 taken g l =
-    cond (outside_range g.progress.n l) (refused_as g (Refused OutOfRange))
-    (cond (same_mark l) (refused_as g SameMark)
+    cond (outside_range g.progress.n l) (refused_as g (Err (Refused OutOfRange)))
+    (cond (same_mark l) (refused_as g (Err SameMark))
     (cond (ltb (met_at g l) (places g.progress.count))
-    (cond (same_contents (line_at g.seen (met_at g l)) l) g (refused_as g OtherContents))
+    (cond (same_contents (line_at g.seen (met_at g l)) l) g (refused_as g (Err OtherContents)))
     (kept g l)))
 
 abbrev pub is_refused : Built → Bool
-is_refused Done = false
-is_refused (Refused r) = true
-is_refused SameMark = true
-is_refused OtherContents = true
+is_refused t = is_err t
 
 abbrev pub when_done : Built → Gathered → Gathered → Gathered
 when_done t new old = cond (is_refused t) old new
@@ -98,13 +88,13 @@ unfoldable pub few : Built → ℕ → ℕ
 few t k = cond (is_refused t) 0 (cond (leb k 256) k 0)
 
 unfoldable pub opened_as : ℕ → ℕ → Bool → Built
-opened_as n k short = cond short (Refused TooShort) (cond (in_range kind.Size (pos n) && leb k 256) Done (Refused OutOfRange))
+opened_as n k short = cond short (Err (Refused TooShort)) (cond (in_range kind.Size (pos n) && leb k 256) (Ok tt) (Err (Refused OutOfRange)))
 
 unfoldable pub opening_progress : ℕ → ℕ → Bool → Progress
 opening_progress n k short = record { n = n; count = 0; lines = 0; status = opened_as n k short }
 
-unfoldable pub no_lines : List ℕ
-no_lines = replicate 1280 0
+unfoldable pub no_lines : List Observation
+no_lines = replicate 256 no_observation
 
 abbrev pub opened : ℕ → ℕ → Bool → Gathered
 opened n k short = together (opening_progress n k short) no_lines
@@ -122,7 +112,7 @@ pub record Proper (l : Observation) : Type 0 where
   pub weight : l.weight ≤ 64
   pub difference : nat_abs l.difference ≤ 2 ^ 16
 
-pub record ProperLines (seen : List ℕ) (c : ℕ) : Type 0 where
+pub record ProperLines (seen : List Observation) (c : ℕ) : Type 0 where
   pub count_max : c ≤ 256
   pub proper : (p : ℕ) → p < c → Proper (line_at seen p)
 
@@ -132,4 +122,4 @@ pub record Ready (g : Gathered) : Type 0 where
   pub lines : ProperLines g.seen g.progress.count
 
 pub record ReadyWhenDone (g : Gathered) : Type 0 where
-  pub ready : g.progress.status ≡ Done → Ready g
+  pub ready : g.progress.status ≡ Ok tt → Ready g

@@ -15,12 +15,11 @@ use lib.ListN.{get_or}
 use Rattle.linear.specs.Slice.{at}
 use Rattle.rules.specs.Range.{all_in_range}
 use Rattle.rules.specs.declared.Kind.TheVariants as kind
-use Rattle.rules.specs.declared.Outcome.TheVariants as outcome
+use Rattle.std.specs.Prelude.{Err, Ok}
 use Rattle.check_spec.specs.Input.{lists_in_range}
-use Rattle.build_lines.specs.declared.Built.{Built}
-use Rattle.build_lines.specs.declared.Built.TheVariants.{Done, Refused, SameMark, OtherContents}
+use Rattle.build_lines.specs.Order.{Built, build_code, build_answer}
+use Rattle.build_lines.specs.declared.BuildRefusal.TheVariants.{Refused, SameMark, OtherContents}
 use Rattle.build_lines.specs.declared.Observation.{Observation}
-use Rattle.build_lines.specs.Order.{build_code, build_answer}
 use Rattle.half_fill.specs.Half.{filled_out}
 use Rattle.build_equations.specs.declared.Layout.{Layout}
 use Rattle.build_equations.specs.declared.Layout.TheVariants.{Square, Lower}
@@ -32,10 +31,10 @@ use Rattle.calls_spec.specs.Build.{BuildExported}
 use Rattle.calls_spec.proofs.Meaning.{zero_code}
 
 zero_built : (b : Built) → get_or (build_code b) 0 0 ≡ 0 → build_code b ≡ []
-zero_built Done e = refl
-zero_built (Refused r) e = zero_code (outcome.Refused r) e
-zero_built SameMark e = absurd (omega arith)
-zero_built OtherContents e = absurd (omega arith)
+zero_built (Ok tt) e = refl
+zero_built (Err (Refused r)) e = zero_code (Err r) e
+zero_built (Err SameMark) e = absurd (omega arith)
+zero_built (Err OtherContents) e = absurd (omega arith)
 
 module _ {n : ℕ} {ls : List Observation} {layout : Layout} {a b : List ℤ} {number : ℕ} {a' b' : List ℤ} (x : BuildExported n ls layout a b number a' b') where
   pub build_status : number ≡ get_or (build_answer n ls (short_for layout a b)) 0 0

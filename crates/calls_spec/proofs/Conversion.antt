@@ -8,20 +8,19 @@ use mathlib.Core.Path.{◌≡◌, refl, sym, ap, subst, ◌∙◌}
 use Prim.Native.Nat.{ℕ, suc}
 use native.Mathlib.Omega.{arith}
 use lib.ListN.{length, get_or, drop}
-use Rattle.rules.specs.declared.Outcome.TheVariants as outcome
+use Rattle.std.specs.Prelude.{Err, Ok}
 use Rattle.rules.proofs.Verdicts.{accepted_new, accepted_old}
-use Rattle.convert_spec.specs.declared.Converted.{Converted}
-use Rattle.convert_spec.specs.declared.Converted.TheVariants.{Length, Refused, NotConvertible}
-use Rattle.convert_spec.specs.Converted.{convert_code, convert_answer}
+use Rattle.convert_spec.specs.Converted.{Converted, convert_code, convert_answer}
+use Rattle.convert_spec.specs.declared.ConversionRefusal.TheVariants.{Refused, NotConvertible}
 use Rattle.convert_spec.specs.File.{new_file}
 use Rattle.calls_spec.specs.Conversion.{ConvertExported}
 use Rattle.reply.specs.ReplyIs.{ReplyIs}
 use Rattle.calls_spec.proofs.Meaning.{zero_code}
 
 zero_converted : (r : Converted) → get_or (convert_code r) 0 0 ≡ 0 → convert_code r ≡ []
-zero_converted (Length n) e = refl
-zero_converted (Refused x) e = zero_code (outcome.Refused x) e
-zero_converted NotConvertible e = absurd (omega arith)
+zero_converted (Ok n) e = refl
+zero_converted (Err (Refused x)) e = zero_code (Err x) e
+zero_converted (Err NotConvertible) e = absurd (omega arith)
 
 pub record Exported (file old new : List ℕ) (written : ℕ) : Type 0 where
   pub code : convert_answer file (length old) ≡ []

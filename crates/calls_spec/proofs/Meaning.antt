@@ -15,9 +15,8 @@ use native.Mathlib.Omega.{arith}
 use lib.IntN.{ℤ}
 use lib.ListN.{get_or, take}
 use Rattle.linear.specs.Matrix.{Vec, Mat}
-use Rattle.rules.specs.Refusal.{code}
-use Rattle.rules.specs.declared.Outcome.{Outcome}
-use Rattle.rules.specs.declared.Outcome.TheVariants.{Accepted, Refused}
+use Rattle.rules.specs.Refusal.{code, Outcome}
+use Rattle.std.specs.Prelude.{Ok, Err}
 use Rattle.rules.specs.declared.Refusal.TheVariants.{TooLong, NoForm, OutOfRange, WrongCount, Margin, Residual, InverseResidual, TooShort, TooEarly, Repeated, Missing, AfterEnd, NotEnded}
 use Rattle.rules.proofs.Verdicts.{accepted_new, accepted_old}
 use Rattle.enclosure.specs.Reckoning.{bound, inverse_bound}
@@ -37,20 +36,20 @@ use Rattle.reply.specs.ReplyIs.{ReplyIs}
 use Rattle.calls_spec.specs.Exported.{CheckExported, ListingExported, EntryExported}
 
 pub zero_code : (o : Outcome) → get_or (code o) 0 0 ≡ 0 → code o ≡ []
-zero_code Accepted e = refl
-zero_code (Refused TooLong) e = absurd (omega arith)
-zero_code (Refused NoForm) e = absurd (omega arith)
-zero_code (Refused OutOfRange) e = absurd (omega arith)
-zero_code (Refused WrongCount) e = absurd (omega arith)
-zero_code (Refused (Margin row)) e = absurd (omega arith)
-zero_code (Refused (Residual row)) e = absurd (omega arith)
-zero_code (Refused (InverseResidual column row)) e = absurd (omega arith)
-zero_code (Refused TooShort) e = absurd (omega arith)
-zero_code (Refused TooEarly) e = absurd (omega arith)
-zero_code (Refused Repeated) e = absurd (omega arith)
-zero_code (Refused (Missing count)) e = absurd (omega arith)
-zero_code (Refused AfterEnd) e = absurd (omega arith)
-zero_code (Refused NotEnded) e = absurd (omega arith)
+zero_code (Ok tt) e = refl
+zero_code (Err TooLong) e = absurd (omega arith)
+zero_code (Err NoForm) e = absurd (omega arith)
+zero_code (Err OutOfRange) e = absurd (omega arith)
+zero_code (Err WrongCount) e = absurd (omega arith)
+zero_code (Err (Margin row)) e = absurd (omega arith)
+zero_code (Err (Residual row)) e = absurd (omega arith)
+zero_code (Err (InverseResidual column row)) e = absurd (omega arith)
+zero_code (Err TooShort) e = absurd (omega arith)
+zero_code (Err TooEarly) e = absurd (omega arith)
+zero_code (Err Repeated) e = absurd (omega arith)
+zero_code (Err (Missing count)) e = absurd (omega arith)
+zero_code (Err AfterEnd) e = absurd (omega arith)
+zero_code (Err NotEnded) e = absurd (omega arith)
 
 module _ {I : Input} {number : ℕ} {places E L : List ℕ} (x : CheckExported I number places E L) where
   pub status_answer : ReplyIs (answer I) number places

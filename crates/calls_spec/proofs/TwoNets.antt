@@ -7,12 +7,11 @@ use mathlib.Core.Path.{◌≡◌, refl, sym, ap, ◌∙◌}
 use Prim.Native.Nat.{ℕ, ◌+◌, ◌*◌}
 use lib.ListN.{get_or}
 use Rattle.rules.specs.Which.{which_of, refusal_of}
-use Rattle.rules.specs.declared.Outcome.TheVariants as outcome
+use Rattle.std.specs.Prelude.{Err, Ok}
 use Rattle.rules.proofs.Verdicts.{nothing_is_not}
-use Rattle.dependent_spec.specs.declared.CheckedNets.{CheckedNets}
-use Rattle.dependent_spec.specs.declared.CheckedNets.TheVariants.{Accepted, Main, Dependent}
+use Rattle.dependent_spec.specs.Order.{CheckedNets, nets_code, joint_answer}
+use Rattle.dependent_spec.specs.declared.NetsRefusal.TheVariants.{Main, Dependent}
 use Rattle.dependent_spec.specs.Nets.{Nets}
-use Rattle.dependent_spec.specs.Order.{nets_code, joint_answer}
 use Rattle.dependent_spec.specs.Joint.{EnclosesBoth}
 use Rattle.reply.specs.ReplyIs.{ReplyIs}
 use Rattle.calls_spec.specs.TwoNets.{DependentExported}
@@ -20,9 +19,9 @@ use Rattle.calls_spec.proofs.Meaning.{zero_code}
 
 -- no refusal has the number 0
 zero_nets : (r : CheckedNets) → get_or (refusal_of (nets_code r)) 0 0 ≡ 0 → nets_code r ≡ []
-zero_nets Accepted e = refl
-zero_nets (Main x) e = absurd (nothing_is_not (zero_code (outcome.Refused x) e))
-zero_nets (Dependent x) e = absurd (nothing_is_not (zero_code (outcome.Refused x) e))
+zero_nets (Ok tt) e = refl
+zero_nets (Err (Main x)) e = absurd (nothing_is_not (zero_code (Err x) e))
+zero_nets (Err (Dependent x)) e = absurd (nothing_is_not (zero_code (Err x) e))
 
 module _ {J : Nets} {number net : ℕ} {places E₁ L₁ E₂ L₂ : List ℕ} (x : DependentExported J number net places E₁ L₁ E₂ L₂) where
   pub net_status : net ≡ which_of (joint_answer J)

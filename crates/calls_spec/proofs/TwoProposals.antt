@@ -12,12 +12,11 @@ use lib.IntN.{ℤ}
 use lib.ListN.{get_or}
 use Rattle.linear.specs.Slice.{at}
 use Rattle.rules.specs.Which.{which_of, refusal_of}
-use Rattle.rules.specs.declared.Outcome.TheVariants.{Refused}
+use Rattle.std.specs.Prelude.{Err, Ok}
 use Rattle.rules.proofs.Verdicts.{nothing_is_not}
 use Rattle.check_spec.specs.Order.{answer}
-use Rattle.common_spec.specs.declared.Common.{Common}
-use Rattle.common_spec.specs.declared.Common.TheVariants.{Found, TooShort, First, Second, Different, TooWide}
-use Rattle.common_spec.specs.Answer.{common_code, common_answer}
+use Rattle.common_spec.specs.Answer.{Common, common_code, common_answer}
+use Rattle.common_spec.specs.declared.CommonRefusal.TheVariants.{First, Second, TooShort, Different, TooWide}
 use Rattle.common_spec.specs.Ends.{Contains}
 use Rattle.common_spec.specs.Promised.{exchanged}
 use Rattle.common_spec.specs.Proposals.{Proposals}
@@ -28,12 +27,12 @@ use Rattle.calls_spec.specs.TwoProposals.{CommonExported}
 use Rattle.calls_spec.proofs.Meaning.{zero_code}
 
 pub zero_common : (c : Common) → get_or (refusal_of (common_code c)) 0 0 ≡ 0 → common_code c ≡ []
-zero_common Found e = refl
-zero_common TooShort e = absurd (omega arith)
-zero_common (First r) e = absurd (nothing_is_not (zero_code (Refused r) e))
-zero_common (Second r) e = absurd (nothing_is_not (zero_code (Refused r) e))
-zero_common Different e = absurd (omega arith)
-zero_common TooWide e = absurd (omega arith)
+zero_common (Ok tt) e = refl
+zero_common (Err TooShort) e = absurd (omega arith)
+zero_common (Err (First r)) e = absurd (nothing_is_not (zero_code (Err r) e))
+zero_common (Err (Second r)) e = absurd (nothing_is_not (zero_code (Err r) e))
+zero_common (Err Different) e = absurd (omega arith)
+zero_common (Err TooWide) e = absurd (omega arith)
 
 module _ {Q : Proposals} {number proposal : ℕ} {places : List ℕ} {low high : List ℤ} (x : CommonExported Q number proposal places low high) where
   pub common_status : ReplyIs (refusal_of (common_answer Q)) number places

@@ -3,9 +3,8 @@
 --                   `build::build`, holds of, 0 where the equations are built; both lists as there
 --   BuildLineExported — that of `kodarfi_build_line` and `kodarfi_build_half_line`: the same, and the line that is refused
 use Rattle.std.specs.Prelude.{List, ◌≡◌, ℕ, ℤ, get_or}
-use Rattle.build_lines.specs.declared.Built.{Built}
+use Rattle.build_lines.specs.Order.{Built, build_code}
 use Rattle.build_lines.specs.declared.Observation.{Observation}
-use Rattle.build_lines.specs.Order.{build_code}
 use Rattle.build_lines.specs.Refused.{build_line}
 use Rattle.build_equations.specs.declared.Layout.{Layout}
 use Rattle.build.specs.BuiltAs.{short_for, BuiltAs}

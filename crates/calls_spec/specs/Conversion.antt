@@ -6,8 +6,7 @@
 use Rattle.std.specs.Prelude.{List, ◌≡◌, ℕ}
 use Rattle.rules.specs.Order.{if_accepted}
 use Rattle.loader_runs.specs.Read.{reading_of}
-use Rattle.convert_spec.specs.declared.Converted.{Converted}
-use Rattle.convert_spec.specs.Converted.{convert_code, length_of, ConvertedAs}
+use Rattle.convert_spec.specs.Converted.{Converted, convert_code, length_of, ConvertedAs}
 use Rattle.reply.specs.ReplyIs.{ReplyIs}
 
 pub record ConvertExported (file old : List ℕ) (old_written number : ℕ) (places new : List ℕ) (written : ℕ) : Type 0 where

@@ -4,10 +4,8 @@
 --   IntervalsExported — the contract of `kodarfi_intervals`: the number of an outcome that `IntervalsOf`, the contract of `doubles_lists::intervals_of`, holds of,
 --                       with the two lists of ends as there
 use Rattle.std.specs.Prelude.{List, ℕ, ℤ, Float}
-use Rattle.rules.specs.Refusal.{code}
-use Rattle.rules.specs.declared.Outcome.{Outcome}
-use Rattle.doubles_lists.specs.declared.Guessed.{Guessed}
-use Rattle.doubles_lists.specs.Inward.{guesses_code, Incoming, GuessesOf}
+use Rattle.rules.specs.Refusal.{code, Outcome}
+use Rattle.doubles_lists.specs.Inward.{Guessed, guesses_code, Incoming, GuessesOf}
 use Rattle.doubles_lists.specs.Outward.{Outgoing, IntervalsOf}
 use Rattle.reply.specs.ReplyIs.{ReplyIs}
 

@@ -10,17 +10,17 @@
 --                       contract of `loader_numbers::take`, holds of, with the nine numbers and the six lists as there
 --   LoaderCheckExported — the contract of `kodarfi_loader_check`: the number and the values of an outcome that `CheckedThrough`, the contract of `Loader::check`,
 --                       holds of, with the two limit lists as there
-use Rattle.std.specs.Prelude.{List, ◌≡◌, ℕ, ℤ}
+use Rattle.std.specs.Prelude.{Result, List, ◌≡◌, ℕ, ℤ}
 use Rattle.rules.specs.Order.{if_accepted}
-use Rattle.rules.specs.Refusal.{code}
-use Rattle.rules.specs.declared.Outcome.{Outcome}
+use Rattle.rules.specs.Refusal.{code, Outcome}
+use Rattle.rules.specs.declared.Refusal.{Refusal}
 use Rattle.check_spec.specs.Input.{Input}
 use Rattle.check_spec.specs.Checked.{Checked}
 use Rattle.entry.specs.Entry.{entry_value, entry_bound}
 use Rattle.listing.specs.Listing.{answer_of, ListedAs}
 use Rattle.entry.specs.Register.{RegisteredAs}
 use Rattle.entry.specs.Register as entry
-use Rattle.entry.specs.declared.Registered.{Registered}
+use Rattle.entry.specs.declared.Entry.{Entry}
 use Rattle.reply.specs.ReplyIs.{ReplyIs}
 use Rattle.loader_lists.specs.Lists.{Lists}
 use Rattle.loader_progress.specs.declared.Stage.{Stage}
@@ -37,7 +37,7 @@ pub record ListingExported (file old : List ℕ) (number : ℕ) (places new : Li
   pub listed : ListedAs file old new written
 
 pub record EntryExported (x : ℤ) (e s : ℕ) (old_value : ℤ) (old_bound number : ℕ) (places : List ℕ) (value : ℤ) (bound : ℕ) : Type 0 where
-  pub answer : Registered
+  pub answer : Result Entry Refusal
   pub registered : RegisteredAs x e s answer
   pub status : ReplyIs (entry.entry_code answer) number places
   pub value_is : value ≡ if_accepted (entry.entry_code answer) (entry_value s x) old_value

@@ -2,8 +2,7 @@
 --   HalfExported — the contract of `kodarfi_check_half`: its result and its places are the number and the values of an outcome that `CheckedHalf`, the
 --                  contract of `half_check::check_half`, holds of, with the two limit lists as there
 use Rattle.std.specs.Prelude.{List, ℕ}
-use Rattle.rules.specs.Refusal.{code}
-use Rattle.rules.specs.declared.Outcome.{Outcome}
+use Rattle.rules.specs.Refusal.{code, Outcome}
 use Rattle.check_spec.specs.Input.{Input}
 use Rattle.half_check.specs.Checked.{CheckedHalf}
 use Rattle.reply.specs.ReplyIs.{ReplyIs}

@@ -3,9 +3,8 @@
 --                     places; numerator and denominator where there is a factor, and as before where the call is refused
 use Rattle.std.specs.Prelude.{List, ◌≡◌, ℕ}
 use Rattle.rules.specs.Order.{if_accepted}
-use Rattle.quality_spec.specs.declared.Quality.{Quality}
+use Rattle.quality_spec.specs.Answer.{Quality, quality_code, numerator_of, denominator_of, QualityAs}
 use Rattle.quality_spec.specs.Inquiry.{Inquiry}
-use Rattle.quality_spec.specs.Answer.{quality_code, numerator_of, denominator_of, QualityAs}
 use Rattle.reply.specs.ReplyIs.{ReplyIs}
 
 pub record QualityExported (Q : Inquiry) (old_numerator old_denominator number : ℕ) (places : List ℕ) (numerator denominator : ℕ) : Type 0 where

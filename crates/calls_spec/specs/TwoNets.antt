@@ -3,9 +3,8 @@
 --                       `dependent_check::check_dependent`, holds of, 0 where nothing is refused; the four limit lists as there
 use Rattle.std.specs.Prelude.{List, ◌≡◌, ℕ}
 use Rattle.rules.specs.Which.{which_of, refusal_of}
-use Rattle.dependent_spec.specs.declared.CheckedNets.{CheckedNets}
+use Rattle.dependent_spec.specs.Order.{CheckedNets, nets_code}
 use Rattle.dependent_spec.specs.Nets.{Nets}
-use Rattle.dependent_spec.specs.Order.{nets_code}
 use Rattle.dependent_spec.specs.Together.{CheckedTogether}
 use Rattle.reply.specs.ReplyIs.{ReplyIs}
 

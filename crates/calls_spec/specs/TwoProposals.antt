@@ -4,8 +4,7 @@
 --                    neither and where nothing is refused
 use Rattle.std.specs.Prelude.{List, ◌≡◌, ℕ, ℤ}
 use Rattle.rules.specs.Which.{which_of, refusal_of}
-use Rattle.common_spec.specs.declared.Common.{Common}
-use Rattle.common_spec.specs.Answer.{common_code, CommonAs}
+use Rattle.common_spec.specs.Answer.{Common, common_code, CommonAs}
 use Rattle.common_spec.specs.Proposals.{Proposals}
 use Rattle.reply.specs.ReplyIs.{ReplyIs}
 

@@ -3,9 +3,8 @@
 --                    with the weight list as there; the tried count where a list is found, and as before where the search is refused
 use Rattle.std.specs.Prelude.{List, ◌≡◌, ℕ, ℤ}
 use Rattle.rules.specs.Order.{if_accepted}
-use Rattle.weights_spec.specs.declared.Found.{Found}
+use Rattle.weights_spec.specs.Search.{Found, search_code, count_of, FoundAs}
 use Rattle.weights_spec.specs.Request.{Request}
-use Rattle.weights_spec.specs.Search.{search_code, count_of, FoundAs}
 use Rattle.reply.specs.ReplyIs.{ReplyIs}
 
 pub record SearchExported (Q : Request) (old_tried number : ℕ) (places : List ℕ) (tried : ℕ) (weights : List ℤ) : Type 0 where

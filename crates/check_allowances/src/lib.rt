@@ -2,7 +2,7 @@
 // that row").
 #![tactic(auto)]
 
-ghost use Rattle.std.specs.Prelude.{◌≡◌, ◌+◌, ◌*◌, ◌≤◌, ◌<◌, ◌^◌, ℕ, min, nat_abs, pos, length, get_or};
+ghost use Rattle.std.specs.Prelude.{◌≡◌, ◌+◌, ◌*◌, ◌≤◌, ◌<◌, ◌^◌, ℕ, min, sum_by, nat_abs, pos, length, get_or};
 ghost use Rattle.linear.specs.Slice.{at};
 ghost use Rattle.linear.specs.Place.{Carried};
 ghost use Rattle.linear.specs.Reach.{MatrixList, ColumnList};
@@ -12,14 +12,12 @@ ghost use Rattle.check_allowances.specs.Allowed.{slack_at, allowed_beside};
 
 use integer::{magnitude, power};
 
-// Term j of a sum: sum + |a|, where a is number j of the row that starts at place row, by way of the place that was carried to it.
-fn add_magnitude(sum: u64, matrix: &[i64], row: usize, place: usize, j: usize) -> u64
-    requires carried { Carried row 1 j place }
-    requires j_in_bounds { (row + j < length matrix.now) × (nat_abs (at matrix.now (row + j)) ≤ 2 ^ 46) }
-    requires sum_bound { sum ≤ 2 ^ 62 }
-    ensures { result ≡ sum + nat_abs (at matrix.now (row + j)) }
+// The sum of the absolute values of a row.
+fn sum_of_magnitudes(row: &[i64]) -> u64
+    requires { sum_by nat_abs row.now < 2 ^ 64 }
+    ensures { result ≡ sum_by nat_abs row.now }
 {
-    sum + magnitude(matrix[place])
+    row.iter().map(|a| a.unsigned_abs()).sum()
 }
 
 // The sum of the absolute values along row k, which starts at place row.
@@ -29,13 +27,7 @@ pub fn row_sum(matrix: &[i64], k: usize, row: usize, n: usize) -> u64
     requires column_list { ColumnList matrix.now (n * n) (2 ^ 46) }
     ensures { result ≡ row_sum_of n matrix.now k }
 {
-    let mut sum: u64 = 0;
-    let mut place = row;
-    for j in 0..n {
-        sum = add_magnitude(sum, matrix, row, place, j);
-        place += 1;
-    }
-    sum
+    sum_of_magnitudes(&matrix[row..row + n])
 }
 
 // The sums along all rows.
@@ -45,8 +37,8 @@ pub fn row_sums_of(out: &mut [u64; 32], matrix: &[i64], n: usize)
     ensures { (length out.new ≡ 32) × PrefixIs 0 out.new n (row_sum_of n matrix.now) }
 {
     let mut row = 0;
-    for k in 0..n {
-        out[k] = row_sum(matrix, k, row, n);
+    for (k, slot) in out[..n].iter_mut().enumerate() {
+        *slot = row_sum(matrix, k, row, n);
         row += n;
     }
 }
@@ -68,26 +60,21 @@ pub fn slacks_of(out: &mut [u64; 32], s: u32, tolerance: &[i64], n: usize)
     requires column_list { ColumnList tolerance.now n (2 ^ 20) }
     ensures { (length out.new ≡ 32) × PrefixIs 0 out.new n (λ (k : ℕ). slack_at s (at tolerance.now k)) }
 {
-    for k in 0..n {
-        out[k] = slack_at(s, tolerance[k]);
+    // A zip with `tolerance`, tried: what iter_mut().zip() writes is not known after it, and the proof did not close.
+    for (k, slot) in out[..n].iter_mut().enumerate() {
+        *slot = slack_at(s, tolerance[k]);
     }
 }
 
-// The smaller of two numbers.
-fn smaller(a: u64, b: u64) -> u64
-    ensures { result ≡ min a b }
-{
-    if a < b { a } else { b }
-}
-
-// How large a residual may be, with this slack and this sum along its row; below 0 where the slack alone is too large.
+// How large a residual may be, with this slack and this sum along its row; below 0 where the slack alone is too large. Not an Option: `allowed_beside`, which the
+// clause of `allowed_of` names, is one signed number.
 fn allowed_at(slack: u64, sum: u64) -> i64
     ensures { result ≡ allowed_beside slack sum }
 {
     if ALLOWED_RESIDUAL < slack {
         return -1;
     }
-    smaller(ALLOWED_RESIDUAL - slack, sum) as i64
+    sum.min(ALLOWED_RESIDUAL - slack) as i64
 }
 
 // How large each residual may be, row by row.
@@ -96,7 +83,7 @@ pub fn allowed_of(out: &mut [i64; 32], slacks: &[u64; 32], sums: &[u64; 32], n: 
     ensures { (length out.new ≡ 32)
         × PrefixIs (pos 0) out.new n (λ (k : ℕ). allowed_beside (get_or slacks.now k 0) (get_or sums.now k 0)) }
 {
-    for k in 0..n {
-        out[k] = allowed_at(slacks[k], sums[k]);
+    for (k, slot) in out[..n].iter_mut().enumerate() {
+        *slot = allowed_at(slacks[k], sums[k]);
     }
 }

@@ -1,10 +1,10 @@
 -- RowsOf as they are filled.
 --   RowPart — k numbers of a row stand from place p on; nothing below p has changed
---   part_none, part_more, part_end — at none, one number more, and with the sum after them;  part_whole — at the end;  part_sum — the sum so far
+--   part_none, part_more, part_end — at none, one number more, and with the sum after them;  part_whole — at the end;  part_sum — the sum so far;  part_placed — of a part that was filled on its own
 --   row_kept — a row below a place that nothing below changes;  row_below, rows_room, rows_fit — where rows end, and how long a list holds them;  rows_none, rows_more, rows_end — for the loop over rows
 use mathlib.Core.List.{List}
 use mathlib.Core.Path.{◌≡◌, refl, sym, subst, ◌∙◌}
-use Prim.Native.Nat.{ℕ, ◌+◌, ◌*◌, ◌≤◌, ◌<◌, ◌^◌}
+use Prim.Native.Nat.{ℕ, ◌+◌, ◌*◌, ◌-◌, ◌≤◌, ◌<◌, ◌^◌}
 use native.Mathlib.Omega.{arith}
 use native.Mathlib.Nat.{mul-le-mul_right, le_antisymm}
 use borrow.Author.Count.{below_more}
@@ -13,7 +13,10 @@ use lib.ListN.{get_or, length, set, length-set}
 use lib.Seq.{get_or-set_same, get_or-set_other}
 use Rattle.integer.specs.Finite.{sumℕ}
 use Rattle.integer.proofs.Sum.{sumℕ_none, sumℕ_next, sumℕ_ext, sumℕ≤}
+use Rattle.std.proofs.Common.{zero-add}
+use borrow.Rule.Slice.PartMut.{put_mid}
 use Rattle.linear.proofs.Places.{square}
+use Rattle.linear.proofs.Slices.{placed_length, placed_at, placed_below}
 use Rattle.check_biased_rows.specs.Biased.{unbiased, Small, RowOf, RowsOf, Kept}
 
 pub record RowPart (before out : List ℕ) (p k : ℕ) (f : ℕ → ℤ) (sum : ℕ) : Type 0 where
@@ -107,3 +110,16 @@ rows_more {xs} {ys} {n} {i} {f} h s =
 
 pub rows_end : {xs : List ℕ} {n i m : ℕ} {f : ℕ → ℕ → ℤ} → i ≤ m → m ≤ i → RowsOf xs n i f → RowsOf xs n m f
 rows_end {xs} {n} {i} {m} {f} a b h = subst (λ (k : ℕ). RowsOf xs n k f) (le_antisymm a b) h
+
+-- a row that was filled on its own, in the list whose part it is
+pub part_placed : {was before items : List ℕ} {p n sum : ℕ} {f : ℕ → ℤ} → p + n ≤ length before → length items ≡ n → RowPart was items 0 n f sum →
+    RowPart before (put_mid p (p + n - p) before items) p n f sum
+part_placed {was} {before} {items} {p} {n} room long h = record {
+  kept = record { long = placed_length before items p n long room; below = λ i l. placed_below before items p n long room 0 i l };
+  small = record { each = λ j l. rw (at j l) (rw (zero-add j) at (h.small.each j l)) };
+  each = λ j l. rw (at j l) (rw (zero-add j) at (h.each j l));
+  total = h.total ∙ sumℕ_ext n _ _ (λ j l. rw (at j l, zero-add j) refl);
+}
+  where
+    at : (j : ℕ) → j < n → get_or (put_mid p (p + n - p) before items) (p + j) 0 ≡ get_or items j 0
+    at j l = placed_at before items p n long room 0 j l

@@ -2,6 +2,7 @@
 --   biased_is, biased_small, unbiased_biased — x + 2^25 is a natural number, at most 2^26, and stands for x
 --   unbiased_below, unbiased_above, unbiased_magnitude — the magnitude of the number that x stands for: 2^25 − x or x − 2^25, at most 2^25
 --   row_sum_lem, row_products — a row's sum is at most 2^31, the sum of the products of two rows at most 2^57
+--   slice_long, slice_at, slice_small, slice_products — a row without its sum, as a part of its list, and the sum of the products of two
 --   row_dot_magnitude, row_dot_shows — the magnitude of a sum of products, and what it is of rows that stand for f and g;  rows_biased — these are biased rows;  row_as — of equal functions
 --   rows_themselves — biased rows stand for the matrix that they are unbiased to
 --   dot_unbiased, row_dot_is — a sum of products of biased numbers, put right, is that of the numbers that they stand for
@@ -11,11 +12,13 @@ use Prim.Native.Nat.{ℕ, zero, suc, ◌+◌, ◌*◌, ◌-◌, ◌≤◌, ◌<�
 use native.Mathlib.Omega.{arith}
 use native.Mathlib.Nat.{mul-le-mul, mul-le-mul_right}
 use lib.IntN.{ℤ, pos, nat_abs, ◌+ℤ◌, ◌-ℤ◌, ◌*ℤ◌, +ℤ-neg_ℤ_cancel}
-use lib.ListN.{get_or}
+use lib.ListN.{get_or, length}
+use Rattle.std.specs.List.{between}
+use Rattle.std.proofs.lemmas.List.Edits.{length-between, get_or-between}
 use Rattle.integer.specs.Finite.{sum, sumℕ}
 use Rattle.integer.proofs.Difference.{is, zz}
 use Rattle.integer.proofs.Absolute.{abs-*, abs_difference}
-use Rattle.integer.proofs.Sum.{sum_ext, abs_sum≤, sumℕ≤}
+use Rattle.integer.proofs.Sum.{sum_ext, abs_sum≤, sumℕ_ext, sumℕ≤}
 use Rattle.check_biased_rows.specs.Biased.{bias, unbiased, Small, BiasedRow, BiasedRows, unbiased_rows, row_dot, RowOf, RowsOf}
 
 module _ (z : ℤ) (h : nat_abs z ≤ 2 ^ 25) where
@@ -40,6 +43,21 @@ row_products {xs} {ys} {p} {q} {n} n_max a b =
       sumℕ≤ n (2 ^ 52) (λ (k : ℕ). get_or xs (p + k) 0 * get_or ys (q + k) 0) (λ k l. mul-le-mul (a.each k l) (b.each k l)),
       mul-le-mul_right (2 ^ 52) n_max,
     )
+
+-- a row without its sum, as a part of its list
+module _ {xs : List ℕ} {p n : ℕ} (l : BiasedRow xs p n) where
+  pub slice_long : length (between p (p + n) xs) ≡ n
+  slice_long = omega (arith, l.inside, length-between xs p (p + n) (omega (arith, l.inside)))
+
+  pub slice_at : (k : ℕ) → k < n → get_or (between p (p + n) xs) k 0 ≡ get_or xs (p + k) 0
+  slice_at k h = get_or-between xs p (p + n) k 0 (omega arith)
+
+  pub slice_small : (k : ℕ) → k < length (between p (p + n) xs) → get_or (between p (p + n) xs) k 0 ≤ 2 * bias
+  slice_small k h = let h : k < n = omega (arith, slice_long) in rw (slice_at k h) (l.small.each k h)
+
+pub slice_products : {xs ys : List ℕ} {p q n : ℕ} → BiasedRow xs p n → BiasedRow ys q n →
+    sumℕ (length (between p (p + n) xs)) (λ (k : ℕ). get_or (between p (p + n) xs) k 0 * get_or (between q (q + n) ys) k 0) ≡ sumℕ n (λ (k : ℕ). get_or xs (p + k) 0 * get_or ys (q + k) 0)
+slice_products {n = n} a b = rw (slice_long a) (sumℕ_ext n _ _ (λ k h. rw (slice_at a k h, slice_at b k h) refl))
 
 module _ (c : ℕ) (a b : ℕ → ℕ) where
   dot_unbiased : (n : ℕ) →

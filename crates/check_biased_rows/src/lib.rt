@@ -2,12 +2,12 @@
 // numbers one pair at a time: so a matrix is biased row after row, and a sum of products is put right by the sums of its two rows.
 #![tactic(auto)]
 
-ghost use Rattle.std.specs.Prelude.{◌≡◌, ℕ, ◌+◌, ◌*◌, ◌<◌, ◌≤◌, ◌^◌, pos, nat_abs, ◌-ℤ◌, get_or, length};
+ghost use Rattle.std.specs.Prelude.{◌≡◌, ℕ, ◌+◌, ◌*◌, ◌<◌, ◌≤◌, ◌^◌, pos, nat_abs, ◌-ℤ◌, length, EachIndex, slice_index};
 ghost use Rattle.integer.specs.Finite.{sumℕ};
 ghost use Rattle.linear.specs.Slice.{at};
 ghost use Rattle.linear.specs.Place.{Carried};
 ghost use Rattle.linear.specs.Reach.{Reach, ColumnList};
-ghost use Rattle.check_biased_rows.specs.Biased.{bias, unbiased, Small, BiasedRow, row_dot, RowOf, RowsOf, Kept};
+ghost use Rattle.check_biased_rows.specs.Biased.{bias, unbiased, BiasedRow, row_dot, RowOf, RowsOf, Kept};
 ghost use Rattle.check_biased_rows.specs.Place.{RowsOfMatrix, ColumnsOfMatrix};
 
 // What is added to a number to bias it, 2^25, and its square.
@@ -43,38 +43,16 @@ pub fn add_low(sum: u64, a: u64, b: u64) -> u64
     sum + (a & LOW) * (b & LOW)
 }
 
-// Term k of the sum of the products of two rows as they stand, by way of the two places that were carried to it.
-fn add_term(
-    sum: u64,
-    a: &[u64],
-    p: usize,
-    at_a: usize,
-    b: &[u64],
-    q: usize,
-    at_b: usize,
-    k: usize,
-) -> u64
-    requires carried { Carried p 1 k at_a × Carried q 1 k at_b }
-    requires k_in_bounds { (p + k < length a.now) × (q + k < length b.now) }
-    requires sum_bound { (sum ≤ 2 ^ 62) × ((get_or a.now (p + k) 0 ≤ 2 * bias) × (get_or b.now (q + k) 0 ≤ 2 * bias)) }
-    ensures { result ≡ sum + get_or a.now (p + k) 0 * get_or b.now (q + k) 0 }
-{
-    add_low(sum, a[at_a], b[at_b])
-}
-
-// The sum of the products of two rows as they stand; the places are carried from term to term.
-fn low_dot(a: &[u64], p: usize, b: &[u64], q: usize, n: usize) -> u64
-    requires n_bound { (n ≤ 32) × ((p + n < length a.now) × (q + n < length b.now)) }
-    requires small { Small a.now p n × Small b.now q n }
-    ensures { result ≡ sumℕ n (λ (k : ℕ). get_or a.now (p + k) 0 * get_or b.now (q + k) 0) }
+// The sum of the products of two rows as they stand.
+fn low_dot(a: &[u64], b: &[u64]) -> u64
+    requires short { (length a.now ≤ 32) × (length b.now ≡ length a.now) }
+    requires small { EachIndex a.now (λ k. slice_index a.now k ≤ 2 * bias) }
+    requires small_2 { EachIndex b.now (λ k. slice_index b.now k ≤ 2 * bias) }
+    ensures { result ≡ sumℕ (length a.now) (λ (k : ℕ). slice_index a.now k * slice_index b.now k) }
 {
     let mut sum: u64 = 0;
-    let mut at_a = p;
-    let mut at_b = q;
-    for k in 0..n {
-        sum = add_term(sum, a, p, at_a, b, q, at_b, k);
-        at_a += 1;
-        at_b += 1;
+    for (&x, &y) in a.iter().zip(b) {
+        sum = add_low(sum, x, y);
     }
     sum
 }
@@ -93,18 +71,9 @@ pub fn row_dot(a: &[u64], i: usize, p: usize, b: &[u64], j: usize, q: usize, n: 
     requires biased_row { BiasedRow a.now (i * (n + 1)) n × BiasedRow b.now (j * (n + 1)) n }
     ensures { result ≡ row_dot a.now (i * (n + 1)) b.now (j * (n + 1)) n }
 {
-    let up = low_dot(a, p, b, q, n) + n as u64 * BIAS_SQUARED;
+    let up = low_dot(&a[p..p + n], &b[q..q + n]) + n as u64 * BIAS_SQUARED;
     let down = BIAS * (a[p + n] + b[q + n]);
     less(up, down)
-}
-
-// Number k of a list from a start on, some places apart, biased, by way of the place that was carried to it.
-fn bias_at(xs: &[i64], start: usize, stride: usize, from: usize, k: usize) -> u64
-    requires carried { Carried start stride k from }
-    requires stride_in_bounds { (start + k * stride < length xs.now) × (nat_abs (at xs.now (start + k * stride)) ≤ bias) }
-    ensures { (unbiased result ≡ at xs.now (start + k * stride)) × (result ≤ 2 * bias) }
-{
-    biased_of(xs[from])
 }
 
 // Biases n numbers of a list, some places apart, and puts their sum after them.
@@ -114,17 +83,16 @@ pub fn bias_row(out: &mut [u64], place: usize, xs: &[i64], start: usize, stride:
     ensures { RowOf out.new place n (λ (k : ℕ). at xs.now (start + k * stride))
         × Kept out.old out.new place }
 {
+    // The source's place is carried: `step_by` refuses a stride of 0, which the clauses of `bias_row` allow.
     let mut sum: u64 = 0;
     let mut from = start;
-    let mut to = place;
-    for k in 0..n {
-        let x = bias_at(xs, start, stride, from, k);
-        out[to] = x;
+    for slot in &mut out[place..place + n] {
+        let x = biased_of(xs[from]);
+        *slot = x;
         sum += x;
         from += stride;
-        to += 1;
     }
-    out[to] = sum;
+    out[place + n] = sum;
 }
 
 // Biases n rows of n numbers one after another, each a step after the one before.
@@ -133,6 +101,7 @@ fn bias_all(out: &mut [u64], xs: &[i64], step: usize, stride: usize, n: usize)
     requires by_index { (i : ℕ) → i < n → Reach xs.now (i * step) stride n bias }
     ensures { RowsOf out.new n n (λ (i k : ℕ). at xs.now (i * step + k * stride)) }
 {
+    // As `for row in out.chunks_exact_mut(n + 1)`, tried, the proof did not close: what that loop writes is not known after it.
     let mut place = 0;
     let mut start = 0;
     for i in 0..n {

@@ -19,7 +19,8 @@ use check_biased_rows::{add_low, bias_row, row_dot, unbiased_magnitude};
 use check_ratios::{all_zero, is_within_caps, ratio_bounds, sum_of};
 use integer::magnitude;
 
-// The absolute values of p = G·r, from the biased rows of G and the biased row that stands for r.
+// The absolute values of p = G·r, from the biased rows of G and the biased row that stands for r. `row_dot` takes a row by its number and its start, which
+// is carried beside it (docs/PROMISES.md: "the start of a row is carried from row to row"), so the loop goes by number, as in `add_slacks`.
 fn magnitudes_of(out: &mut [u64; 32], rows: &[u64], residuals: &[u64], n: usize)
     requires n_bound { (n ≤ 32) × (length out.old ≡ 32) }
     requires biased_rows { BiasedRows rows.now n × BiasedRow residuals.now (0 * (n + 1)) n }
@@ -33,16 +34,6 @@ fn magnitudes_of(out: &mut [u64; 32], rows: &[u64], residuals: &[u64], n: usize)
     }
 }
 
-// Term j of a slack: sum + |x|·slack, where x is number j of a biased row, by way of the place that was carried to it.
-fn add_slack(sum: u64, rows: &[u64], row: usize, place: usize, slack: u64, j: usize) -> u64
-    requires carried { Carried row 1 j place }
-    requires j_in_bounds { (row + j < length rows.now) × (get_or rows.now (row + j) 0 ≤ 2 * bias) }
-    requires sum_bound { (sum ≤ 2 ^ 62) × (slack ≤ allowed_residual) }
-    ensures { result ≡ sum + nat_abs (unbiased (get_or rows.now (row + j) 0)) * slack }
-{
-    add_low(sum, unbiased_magnitude(rows[place]), slack)
-}
-
 // The sum over j of |G_mj|·σ_j, for the biased row m of G that starts at index row.
 fn slack_of(rows: &[u64], m: usize, row: usize, slacks: &[u64; 32], n: usize) -> u64
     requires n_bound { n ≤ 32 }
@@ -52,10 +43,8 @@ fn slack_of(rows: &[u64], m: usize, row: usize, slacks: &[u64; 32], n: usize) ->
     ensures { result ≡ sumℕ n (λ (j : ℕ). nat_abs (unbiased_rows rows.now n m j) * get_or slacks.now j 0) }
 {
     let mut sum: u64 = 0;
-    let mut place = row;
-    for j in 0..n {
-        sum = add_slack(sum, rows, row, place, slacks[j], j);
-        place += 1;
+    for (&x, &slack) in rows[row..row + n].iter().zip(slacks) {
+        sum = add_low(sum, unbiased_magnitude(x), slack);
     }
     sum
 }
@@ -109,7 +98,8 @@ pub fn column_bounds(
     column
 }
 
-// Writes n limits from an index on, a stride apart.
+// Writes n limits from an index on, a stride apart. The loop goes by number: tests/columns.py reads that each number written is an element of an array that was
+// handed over.
 pub fn store(dst: &mut [u64], start: usize, stride: usize, column: [u64; 32], n: usize)
     requires n_bound { (n ≤ 32) × (start + n * stride < 2 ^ 60) }
     requires by_index { (k : ℕ) → k < n → start + k * stride < length dst.old }

@@ -1,29 +1,21 @@
 -- The two parts of a number, and one row more in the sums that it belongs to.
 --   signs — a number is its part of 0 or more less its part below 0;  up_magnitude, down_magnitude — these are at most its magnitude
 --   half_below, half_above — the code's test of the sign;  half_ends, half_room — the sums that a number belongs to end within the 64 and have room
---   read_at — a small number of a list is read as it stands
---   added_none, added_row — nothing for 0, and a row of multiples written into those sums;  written_ahead — what stands at the place that comes next
+--   added_none, added_row — nothing for 0, and a row of multiples in the place of those sums
 use mathlib.Core.List.{List}
 use mathlib.Core.Bool.{true, false}
 use mathlib.Core.Path.{◌≡◌, refl, sym, subst, ◌∙◌}
-use Prim.Native.Nat.{ℕ, ◌+◌, ◌*◌, ◌≤◌, ◌^◌}
+use Prim.Native.Nat.{ℕ, ◌+◌, ◌-◌, ◌*◌, ◌≤◌, ◌<◌}
 use native.Mathlib.Omega.{arith}
 use borrow.Author.Tests.{ltb-true}
 use lib.Dec.{T}
 use lib.IntN.{ℤ, pos, negsuc, nat_abs, ◌-ℤ◌, +ℤ_idl}
 use lib.ListN.{get_or, length}
 use lib.Signed.{lt_z}
-use mir.Syntax.{w64}
-use mir.Val.{to_z, of_z}
-use mir.ValLaws.{to_z-of_z}
 use Rattle.integer.specs.SignedParts.{pos_part, neg_part}
 use Rattle.integer.proofs.Difference.{zz}
-use Rattle.integer.proofs.Machine.{small}
-use Rattle.linear.specs.Slice.{at}
-use Rattle.linear.specs.Place.{Carried}
-use Rattle.linear.specs.Written.{written}
-use Rattle.linear.proofs.Carried.{unit_place}
-use Rattle.linear.proofs.Written.{written_at, written_else, written_length, front_at}
+use borrow.Rule.Slice.PartMut.{put_mid}
+use Rattle.linear.proofs.Slices.{placed_length, placed_at, placed_below, placed_above}
 use Rattle.check_defects.specs.Sums.{half_of, SmallSums, Added}
 
 -- ---- the two parts of a number
@@ -62,29 +54,22 @@ unfolding half_of
 half_room (pos a) p q = p
 half_room (negsuc a) p q = q
 
--- a small number of a list is read as it stands
-pub read_at : (xs : List ℤ) {k p : ℕ} → k ≡ p → nat_abs (at xs p) ≤ 2 ^ 20 → to_z w64 (of_z w64 (at xs k)) ≡ at xs p
-read_at xs {k} {p} e h = rw e (to_z-of_z w64 (at xs p) (small (at xs p) (omega (arith, h))))
-
 -- ---- one row more
 pub added_none : (sums : List ℕ) (n : ℕ) (row : ℕ → ℕ) → Added sums sums n (pos 0) row
 unfolding pos_part neg_part
 added_none sums n row = record { long = refl; ups = λ j l. omega arith; downs = λ j l. omega arith }
 
-module _ (sums : List ℕ) (n : ℕ) (n_max : n ≤ 32) (long : length sums ≡ 64) (row : ℕ → ℕ) where
-  pub added_row : (x : ℤ) → Added sums (written sums (half_of x) 1 (λ (j : ℕ). get_or sums (half_of x + j) 0 + nat_abs x * row j) n) n x row
+module _ (sums items : List ℕ) (n : ℕ) (n_max : n ≤ 32) (long : length sums ≡ 64) (row : ℕ → ℕ) (same : length items ≡ n) where
+  pub added_row : (x : ℤ) → ((j : ℕ) → j < n → get_or items j 0 ≡ get_or sums (half_of x + j) 0 + nat_abs x * row j) →
+      Added sums (put_mid (half_of x) (half_of x + n - half_of x) sums items) n x row
   unfolding pos_part neg_part half_of
-  added_row (pos a) = record {
-    long = written_length sums 0 1 _ n;
-    ups = λ j l. let e : 0 + j ≡ j = omega arith in front_at sums _ 0 n j l (omega arith) ∙ rw e;
-    downs = λ j l. written_else sums 0 1 _ 0 n (32 + j) (λ i m e. omega arith) ∙ omega arith;
+  added_row (pos a) h = record {
+    long = placed_length sums items 0 n same (omega arith);
+    ups = λ j l. let e : 0 + j ≡ j = omega arith in rw e at (placed_at sums items 0 n same (omega arith) 0 j l ∙ h j l);
+    downs = λ j l. placed_above sums items 0 n same (omega arith) 0 (32 + j) (omega arith) ∙ omega arith;
   }
-  added_row (negsuc a) = record {
-    long = written_length sums 32 1 _ n;
-    ups = λ j l. written_else sums 32 1 _ 0 n j (λ i m e. omega arith) ∙ omega arith;
-    downs = λ j l. written_at sums 32 1 _ 0 n j (omega arith) (omega arith) l (λ k m. omega arith);
+  added_row (negsuc a) h = record {
+    long = placed_length sums items 32 n same (omega arith);
+    ups = λ j l. placed_below sums items 32 n same (omega arith) 0 j (omega arith) ∙ omega arith;
+    downs = λ j l. placed_at sums items 32 n same (omega arith) 0 j l ∙ h j l;
   }
-
--- what stands at the place that comes next
-pub written_ahead : {now : List ℕ} {p to : ℕ} (xs : List ℕ) (f : ℕ → ℕ) (j : ℕ) → now ≡ written xs p 1 f j → Carried p 1 j to → get_or now to 0 ≡ get_or xs (p + j) 0
-written_ahead {now} {p} {to} xs f j e h = rw (e, unit_place h) (written_else xs p 1 f 0 j (p + j) (λ i l q. omega arith))

@@ -1,19 +1,24 @@
 -- The sums over all rows.
---   none_cleared, one_cleared, all_cleared — at none, with the sums of one number more and at the end, for the loop that clears them
+--   cleared — after the first n sums of both halves were cleared
 --   sums_none, sums_more, sums_end — at none, with one row more and at the end, for loops
 --   ups_small, downs_small, sums_room, total_small, biased_small — the sums, the sum of the factors and 2^25 times it stay small
 --   unit_up, unit_down — what adding number m, m of T·I to its sum leaves of the two sums of number j;  unit_small — it stays small
 --   sums_less — the two sums with that, put right, are T·I less the sum of the multiples of what the biased numbers stand for
-use mathlib.Core.List.{List}
+use mathlib.Core.List.{List, ◌++◌}
+use Rattle.std.proofs.Common.{replicate, ◌-◌, rules}
+use Rattle.std.proofs.lemmas.List.{places, get_or-replicate}
+use Rattle.linear.proofs.Slices.{placed_length, placed_at, placed_below}
+use borrow.Rule.Slice.PartMut.{put_mid, post_of}
+use Rattle.std.specs.List.{between}
+use Rattle.std.proofs.lemmas.List.Edits.{length-between}
 use mathlib.Core.Path.{◌≡◌, refl, sym, ap, subst, ◌∙◌}
 use Prim.Native.Nat.{ℕ, zero, suc, ◌+◌, ◌*◌, ◌≤◌, ◌<◌, ◌^◌}
 use native.Mathlib.Omega.{arith}
 use native.Mathlib.Nat.{le_refl, mul-le-mul, mul-le-mul_right, le_trans, le_antisymm}
 use lib.IntN.{ℤ, pos, nat_abs, ◌+ℤ◌, ◌-ℤ◌, ◌*ℤ◌}
-use lib.ListN.{get_or, length, set, length-set}
+use lib.ListN.{get_or, length, set}
 use lib.Seq.{get_or-set_same, get_or-set_other}
 use native.Mathlib.Decide.{ℕ_discrete}
-use borrow.Author.Count.{below_more}
 use Rattle.integer.specs.SignedParts.{pos_part, neg_part}
 use Rattle.integer.specs.Finite.{sum, sumℕ}
 use Rattle.integer.proofs.Difference.{is, zz}
@@ -27,22 +32,25 @@ use Rattle.check_defects.proofs.Halves.{signs, up_magnitude, down_magnitude}
 use Rattle.check_defects.specs.Sums.{NoSums, SmallSums, Added, SumsOf}
 
 -- ---- clearing the sums
-pub none_cleared : {sums : List ℕ} → length sums ≡ 64 → NoSums sums 0
-none_cleared long = record { long = long; ups = λ j l. absurd (omega arith); downs = λ j l. absurd (omega arith) }
+module _ (sums first rest : List ℕ) (n : ℕ) (n_max : n ≤ 32) (long : length sums ≡ 64) (a : first ≡ replicate n 0) where
+  once_length : length (first ++ post_of 0 n sums) ≡ 64
+  once_length = rw a (search (rules, places))
 
-pub one_cleared : (sums : List ℕ) (n : ℕ) → n < 32 → NoSums sums n → NoSums (set (set sums n 0) (32 + n) 0) (n + 1)
-one_cleared sums n l h = record {
-  long = simp length-set h.long;
-  ups = below_more (λ j. get_or (set (set sums n 0) (32 + n) 0) j 0 ≡ 0) n
-      (λ j p. get_or-set_other (set sums n 0) (32 + n) j 0 0 (omega arith) ∙ get_or-set_other sums n j 0 0 (omega arith) ∙ h.ups j p)
-      (get_or-set_other (set sums n 0) (32 + n) n 0 0 (omega arith) ∙ get_or-set_same sums n 0 0 (omega (arith, h.long)));
-  downs = below_more (λ j. get_or (set (set sums n 0) (32 + n) 0) (32 + j) 0 ≡ 0) n
-      (λ j p. get_or-set_other (set sums n 0) (32 + n) (32 + j) 0 0 (omega arith) ∙ get_or-set_other sums n (32 + j) 0 0 (omega arith) ∙ h.downs j p)
-      (get_or-set_same (set sums n 0) (32 + n) 0 0 (omega (arith, length-set sums n 0, h.long)));
-}
+  once_cleared : (j : ℕ) → j < n → get_or (first ++ post_of 0 n sums) j 0 ≡ 0
+  once_cleared j l = rw a (search (rules, places))
 
-pub all_cleared : {sums : List ℕ} {j n : ℕ} → j ≤ n → n ≤ j → NoSums sums j → NoSums sums n
-all_cleared {sums} a b h = subst (λ (k : ℕ). NoSums sums k) (le_antisymm a b) h
+  pub other_length : length (between 32 (32 + n) (first ++ post_of 0 n sums)) ≡ n
+  other_length = length-between (first ++ post_of 0 n sums) 32 (32 + n) (omega (arith, once_length)) ∙ omega arith
+
+  pub cleared : rest ≡ replicate n 0 → NoSums (put_mid 32 (32 + n - 32) (first ++ post_of 0 n sums) rest) n
+  cleared b =
+      let same : length rest ≡ n = rw b (search (rules, places)) in
+      let room : 32 + n ≤ length (first ++ post_of 0 n sums) = omega (arith, once_length) in
+      record {
+        long = placed_length _ rest 32 n same room ∙ once_length;
+        ups = λ j l. placed_below _ rest 32 n same room 0 j (omega arith) ∙ once_cleared j l;
+        downs = λ j l. placed_at _ rest 32 n same room 0 j l ∙ rw b (get_or-replicate n j 0 0 l);
+      }
 
 -- ---- row after row
 

@@ -2,7 +2,7 @@
 // row of the second, and a 0 takes nothing.
 #![tactic(auto)]
 
-ghost use Rattle.std.specs.Prelude.{◌≡◌, ℕ, ◌+◌, ◌*◌, ◌/◌, ◌%◌, ◌≤◌, ◌<◌, ◌^◌, [], pos, nat_abs, ◌+ℤ◌, ◌-ℤ◌, ◌*ℤ◌, get_or, length, set};
+ghost use Rattle.std.specs.Prelude.{◌≡◌, ℕ, ◌+◌, ◌*◌, ◌/◌, ◌%◌, ◌≤◌, ◌<◌, ◌^◌, [], pos, nat_abs, ◌+ℤ◌, ◌-ℤ◌, get_or, length, set, EachIndex, slice_index};
 ghost use Rattle.integer.specs.Finite.{sum};
 ghost use Rattle.linear.specs.Slice.{at};
 ghost use Rattle.linear.specs.Place.{Carried};
@@ -20,36 +20,22 @@ ghost use Rattle.check_defects.specs.Difference.{number_less, difference};
 use check_biased_rows::{BIAS, ROWS_LENGTH, add_low, bias_columns};
 use integer::{magnitude, power};
 
-// Term j of a multiple of a biased row: sum + magnitude·x, where x is number j of the row that starts at place row, by way of the place that was carried to it.
-fn add_scaled(sum: u64, magnitude: u64, rows: &[u64], row: usize, place: usize, j: usize) -> u64
-    requires carried { Carried row 1 j place }
-    requires j_in_bounds { (row + j < length rows.now) × (get_or rows.now (row + j) 0 ≤ 2 * bias) }
-    requires sum_bound { (sum ≤ 2 ^ 62) × (magnitude ≤ 2 ^ 20) }
-    ensures { result ≡ sum + magnitude * get_or rows.now (row + j) 0 }
+// Adds magnitude times a biased row to sums.
+fn add_row(sums: &mut [u64], magnitude: u64, row: &[u64])
+    requires short { (length row.now ≡ length sums.old) × (magnitude ≤ 2 ^ 20) }
+    requires small_sums { EachIndex sums.old (λ j. slice_index sums.old j ≤ 2 ^ 62) }
+    requires small_row { EachIndex row.now (λ j. slice_index row.now j ≤ 2 * bias) }
+    ensures { EachIndex sums.new (λ j. slice_index sums.new j ≡ slice_index sums.old j + magnitude * slice_index row.now j) }
 {
-    add_low(sum, magnitude, rows[place])
-}
-
-// Adds magnitude times a biased row, from place row on, to the half of the sums that begins at this place.
-fn add_row(sums: &mut [u64; 64], half: usize, magnitude: u64, rows: &[u64], row: usize, n: usize)
-    requires n_bound { (half + n ≤ 64) × (magnitude ≤ 2 ^ 20) }
-    requires biased_row { BiasedRow rows.now row n }
-    requires small_sums { SmallSums sums.old half n }
-    ensures { sums.new ≡ written sums.old half 1
-        (λ (j : ℕ). get_or sums.old (half + j) 0 + magnitude * get_or rows.now (row + j) 0) n }
-{
-    let mut place = row;
-    let mut to = half;
-    for j in 0..n {
-        sums[to] = add_scaled(sums[to], magnitude, rows, row, place, j);
-        place += 1;
-        to += 1;
+    for (j, sum) in sums.iter_mut().enumerate() {
+        *sum = add_low(*sum, magnitude, row[j]);
     }
 }
 
 // Numbers below 0 have the upper half of the sums.
 fn half_of(x: i64) -> usize
-    ensures { result ≡ half_of x }
+    ensures value { result ≡ half_of x }
+    ensures within { result ≤ 32 }
 {
     if x < 0 { 32 } else { 0 }
 }
@@ -64,17 +50,9 @@ fn add_multiple(sums: &mut [u64; 64], x: i64, rows: &[u64], k: usize, row: usize
         (λ (j : ℕ). get_or rows.now (biased_place n k j) 0) }
 {
     if x != 0 {
-        add_row(sums, half_of(x), magnitude(x), rows, row, n);
+        let half = half_of(x);
+        add_row(&mut sums[half..half + n], magnitude(x), &rows[row..row + n]);
     }
-}
-
-// Number k of a list from a start on, some places apart, by way of the place that was carried to it.
-fn number_at(xs: &[i64], start: usize, stride: usize, from: usize, k: usize) -> i64
-    requires carried { Carried start stride k from }
-    requires stride_in_bounds { (start + k * stride < length xs.now) × (nat_abs (at xs.now (start + k * stride)) ≤ 2 ^ 20) }
-    ensures { result ≡ at xs.now (start + k * stride) }
-{
-    xs[from]
 }
 
 // Clears the sums of the first n numbers of a row.
@@ -82,10 +60,8 @@ fn clear(sums: &mut [u64; 64], n: usize)
     requires { (n ≤ 32) × (length sums.old ≡ 64) }
     ensures { NoSums sums.new n }
 {
-    for j in 0..n {
-        sums[j] = 0;
-        sums[32 + j] = 0;
-    }
+    sums[..n].fill(0);
+    sums[32..32 + n].fill(0);
 }
 
 // Adds the multiples of all rows by the numbers of a list, some places apart; gives the sum of these numbers.
@@ -106,11 +82,12 @@ fn add_rows(
         × SumsOf sums.new n n (λ (k : ℕ). at xs.now (start + k * stride))
         (λ (k j : ℕ). get_or rows.now (biased_place n k j) 0)) }
 {
+    // Places are carried, here and in `differences_of`: `xs[start..].iter().step_by(stride).zip(rows.chunks_exact(n + 1)).take(n)` is no plainer.
     let mut total: i64 = 0;
     let mut from = start;
     let mut row = 0;
     for k in 0..n {
-        let x = number_at(xs, start, stride, from, k);
+        let x = xs[from];
         add_multiple(sums, x, rows, k, row, n);
         total += x;
         from += stride;
@@ -157,6 +134,7 @@ fn store_row(
     clear(sums, n);
     let biased = BIAS as i64 * add_rows(sums, xs, start, stride, rows, n);
     add_unit(sums, t, m);
+    // As `out[m..].iter_mut().step_by(n).enumerate()`, tried, the proof did not close.
     let mut place = m;
     for j in 0..n {
         out[place] = number_less(biased, sums[j], sums[32 + j]);

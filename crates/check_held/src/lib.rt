@@ -6,12 +6,12 @@ ghost use Rattle.check_spec.specs.Input.{input};
 ghost use Rattle.check_held.specs.Held.{HeldAs};
 
 use check_lists::check;
-use rules::Outcome;
+use rules::Refusal;
 
 // What the check says, and the limits that it found.
 #[derive(Clone, Copy)]
 pub struct Held {
-    pub outcome: Outcome,
+    pub outcome: Result<(), Refusal>,
     pub solution: [u64; 32],
     pub inverse: [u64; 1024],
 }

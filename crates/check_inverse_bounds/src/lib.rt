@@ -18,7 +18,8 @@ use check_biased_rows::{bias_row, row_dot};
 use check_bounds::store_limits;
 use integer::magnitude;
 
-// The first j absolute values of p = G·r for column j where p is symmetric, read across the j columns that the list begins with.
+// The first j absolute values of p = G·r for column j where p is symmetric, read across the j columns that the list begins with. The place is carried
+// across: `list[j..].iter().step_by(n).take(j).enumerate()` is no plainer.
 fn read_across(out: &mut [u64; 32], list: &[u64], j: usize, n: usize)
     requires { (n ≤ 32) × ((j < n) × ((length out.old ≡ 32) × (n * n ≤ length list.now))) }
     ensures { (length out.new ≡ 32) × PrefixIs 0 out.new j (λ (m : ℕ). get_or list.now (place_of n m j) 0) }
@@ -31,7 +32,8 @@ fn read_across(out: &mut [u64; 32], list: &[u64], j: usize, n: usize)
 }
 
 // The absolute values of p = G·r from the biased row that stands for r, from number `known` on, which is that of the biased row of G at place first.
-// They are put in the list too, from place to on.
+// They are put in the list too, from place to on. The loops here and in `store_columns` go by number: `row_dot` and `store_limits` take it beside the places
+// that are carried, and after a loop over `iter_mut().zip(..)` the proof knows no number that was written.
 fn work_out(
     out: &mut [u64; 32],
     list: &mut [u64],

@@ -18,7 +18,7 @@ use Rattle.linear.specs.Written.{written}
 use Rattle.linear.proofs.Slack.{slack_ext}
 use Rattle.linear.proofs.Written.{written_ext}
 use Rattle.rules.proofs.Ranges.{neither_left}
-use Rattle.rules.specs.declared.Outcome.{Outcome}
+use Rattle.rules.specs.Refusal.{Outcome}
 use Rattle.enclosure.specs.Reckoning.{margin, load, defect, residual, slack, allowed_residual, row_sum, exceeds, magnitudes_with, bound_with, bound}
 use Rattle.enclosure.proofs.Bounds.{bound_ext}
 use Rattle.check_arrays.specs.Arrays.{PrefixIs}

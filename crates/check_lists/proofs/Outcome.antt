@@ -18,9 +18,8 @@ use Rattle.linear.proofs.Written.{written_ext}
 use Rattle.linear.proofs.Places.{square}
 use Rattle.check_biased_rows.specs.Place.{RowsOfMatrix}
 use Rattle.rules.specs.Order.{verdict}
-use Rattle.rules.specs.Refusal.{code}
-use Rattle.rules.specs.declared.Outcome.{Outcome}
-use Rattle.rules.specs.declared.Outcome.TheVariants.{Accepted, Refused}
+use Rattle.rules.specs.Refusal.{code, Outcome}
+use Rattle.std.specs.Prelude.{Ok, Err}
 use Rattle.rules.specs.declared.Refusal.{Refusal}
 use Rattle.rules.proofs.Verdicts.{accepted_new, accepted_old}
 use Rattle.enclosure.specs.Reckoning.{allowed_residual, bound_with, inverse_bound}
@@ -65,12 +64,12 @@ module _ (W : Work) (ready : Workable W) {rows margins : List ℕ} {residuals co
         a.ei ∙ first_column W ready columns a.hc,
       )
 
-  pub refused : (x : Refusal) → r ≡ Refused x → ComputedAs W (Refused x) W.solution_bounds W.inverse_bounds
+  pub refused : (x : Refusal) → r ≡ Err x → ComputedAs W (Err x) W.solution_bounds W.inverse_bounds
   refused x e =
-      let s : code (Refused x) ≡ work_answer W = ap code (sym e) ∙ code_is in
+      let s : code (Err x) ≡ work_answer W = ap code (sym e) ∙ code_is in
       record { says = s; solution_bounds = sym (accepted_old _ _ (sym s)); inverse_bounds = sym (accepted_old _ _ (sym s)) }
 
-  module _ (e : r ≡ Accepted) where
+  module _ (e : r ≡ Ok tt) where
     none : NoPlace W.n a.m a.k a.i
     none = accepted_places W.n a.m a.k a.i (sym a.er ∙ ap code e)
 
@@ -89,7 +88,7 @@ module _ (W : Work) (ready : Workable W) {rows margins : List ℕ} {residuals co
     pub accepted_here : {column E L : List ℕ} → PrefixIs 0 column W.n (limits_of W.n rows (at residuals) (work_slack W) margins W.weights) →
         E ≡ written W.solution_bounds 0 1 (λ (x : ℕ). get_or column x 0) W.n →
         L ≡ columns_written W.inverse_bounds W.n (λ (b c : ℕ). limits_of W.n rows (λ (x : ℕ). at columns (c * W.n + x)) (λ (x : ℕ). 0) margins W.weights b) W.n →
-        ComputedAs W Accepted E L
+        ComputedAs W (Ok tt) E L
     accepted_here {column} {E} {L} h e_e e_l =
         let s : [] ≡ work_answer W = ap code (sym e) ∙ code_is in
         record {

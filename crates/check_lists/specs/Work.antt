@@ -16,8 +16,7 @@ use Rattle.linear.specs.Slice.{at}
 use Rattle.linear.specs.Reach.{ColumnList, MatrixList}
 use Rattle.linear.specs.Written.{written}
 use Rattle.rules.specs.Order.{verdict, if_accepted}
-use Rattle.rules.specs.Refusal.{code}
-use Rattle.rules.specs.declared.Outcome.{Outcome}
+use Rattle.rules.specs.Refusal.{code, Outcome}
 use Rattle.enclosure.specs.Problem.{Problem, problem_of}
 use Rattle.enclosure.specs.Reckoning.{allowed_residual, row_sum, bound_with, inverse_bound}
 use Rattle.check_arrays.specs.Parts.{residual_from, above_allowed}

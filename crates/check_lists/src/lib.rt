@@ -16,7 +16,7 @@ use check_ranges::{are_lists_in_range, are_sizes_in_range, is_short, judge};
 use check_ratios::caps_of;
 use check_residuals::{first_above, first_above_in_columns, residuals_of, scaled_right};
 use check_symmetry::are_symmetric;
-use rules::{Outcome, Refusal};
+use rules::Refusal;
 
 // The reckoning of what passes 8 and 3, from a base of the residuals, what is allowed of them and of the inverse's columns, and their slacks: all refusals are
 // decided before the first limit is written. Three lists to work in are lent: the biased rows of the inverse, its residuals, and the absolute values of p.
@@ -36,7 +36,7 @@ fn compute_bounds_in(
     weights: &[i64],
     solution_bounds: &mut [u64],
     inverse_bounds: &mut [u64],
-) -> Outcome
+) -> Result<(), Refusal>
     requires n_in_bounds { (n * (n + 1) ≤ length rows.old) × ((n * n ≤ length columns.old) × (n * n ≤ length magnitudes.old)) }
     requires workable { Workable (work n t matrix.now base.now allowed.now allowed_in_columns.now slacks.now guess.now inverse.now
         weights.now solution_bounds.old inverse_bounds.old) }
@@ -63,28 +63,23 @@ fn compute_bounds_in(
     let m = first_zero(&margins, n);
     let k = first_above(&residuals, 0, allowed, n);
     let i = first_above_in_columns(columns, allowed_in_columns, n);
-    let outcome = judge(n, m, k, i);
-    match outcome {
-        Outcome::Refused(refusal) => Outcome::Refused(refusal),
-        Outcome::Accepted => {
-            let mut caps = [0u64; 32];
-            caps_of(&mut caps, &margins, weights, n);
-            let column = column_bounds(rows, &residuals, slacks, &margins, &caps, weights, n);
-            store(solution_bounds, 0, 1, column, n);
-            store_columns(
-                inverse_bounds,
-                rows,
-                columns,
-                magnitudes,
-                symmetric,
-                &margins,
-                &caps,
-                weights,
-                n,
-            );
-            Outcome::Accepted
-        }
-    }
+    judge(n, m, k, i)?;
+    let mut caps = [0u64; 32];
+    caps_of(&mut caps, &margins, weights, n);
+    let column = column_bounds(rows, &residuals, slacks, &margins, &caps, weights, n);
+    store(solution_bounds, 0, 1, column, n);
+    store_columns(
+        inverse_bounds,
+        rows,
+        columns,
+        magnitudes,
+        symmetric,
+        &margins,
+        &caps,
+        weights,
+        n,
+    );
+    Ok(())
 }
 
 // The same in lists of its own. Filling long ones takes longer than the rest where n is small, so there are three lengths of them.
@@ -101,7 +96,7 @@ pub fn compute_bounds(
     weights: &[i64],
     solution_bounds: &mut [u64],
     inverse_bounds: &mut [u64],
-) -> Outcome
+) -> Result<(), Refusal>
     requires { Workable (work n t matrix.now base.now allowed.now allowed_in_columns.now slacks.now guess.now inverse.now
         weights.now solution_bounds.old inverse_bounds.old) }
     ensures { ComputedAs (work n t matrix.now base.now allowed.now allowed_in_columns.now
@@ -187,7 +182,7 @@ pub fn check(
     weights: &[i64],
     solution_bounds: &mut [u64],
     inverse_bounds: &mut [u64],
-) -> Outcome
+) -> Result<(), Refusal>
     ensures { Checked (input n s t matrix.now right.now tolerance.now guess.now
         inverse.now weights.now solution_bounds.old inverse_bounds.old)
         result solution_bounds.new inverse_bounds.new }
@@ -202,7 +197,7 @@ pub fn check(
         solution_bounds.len(),
         inverse_bounds.len(),
     ) {
-        return Outcome::Refused(Refusal::TooShort);
+        return Err(Refusal::TooShort);
     }
     if are_sizes_in_range(n, s, t) {
         let size = n as usize;
@@ -233,5 +228,5 @@ pub fn check(
             );
         }
     }
-    Outcome::Refused(Refusal::OutOfRange)
+    Err(Refusal::OutOfRange)
 }

@@ -14,7 +14,7 @@ ghost use Rattle.check_margins.specs.Load.{load_from};
 
 use check_allowances::row_sum;
 use check_defects::defects_of;
-use integer::{first_or, magnitude, power};
+use integer::{magnitude, power};
 
 // One term of a load: sum + |d|·|w|.
 fn weigh(sum: u64, d: i64, w: i64) -> u64
@@ -24,16 +24,6 @@ fn weigh(sum: u64, d: i64, w: i64) -> u64
     sum + magnitude(d) * magnitude(w)
 }
 
-// Term j of a load, where d is number j of the row of D that starts at place row, by way of the place that was carried to it.
-fn weigh_at(sum: u64, defects: &[i64], row: usize, place: usize, w: i64, j: usize) -> u64
-    requires carried { Carried row 1 j place }
-    requires j_in_bounds { (row + j < length defects.now) × (nat_abs (at defects.now (row + j)) ≤ 2 ^ 46) }
-    requires sum_bound { (sum ≤ 2 ^ 62) × (nat_abs w ≤ 1024) }
-    ensures { result ≡ sum + nat_abs (at defects.now (row + j)) * nat_abs w }
-{
-    weigh(sum, defects[place], w)
-}
-
 // The sum over j of |D_mj|·w_j; D stands row after row, row m from place row on.
 fn weighted_load(defects: &[i64], weights: &[i64], n: usize, m: usize, row: usize) -> u64
     requires n_bound { (n ≤ 32) × ((m < n) × Carried 0 n m row) }
@@ -41,11 +31,10 @@ fn weighted_load(defects: &[i64], weights: &[i64], n: usize, m: usize, row: usiz
     requires column_list_2 { ColumnList weights.now n 1024 }
     ensures { result ≡ load_from n defects.now weights.now m }
 {
-    let mut sum: u64 = 0;
-    let mut place = row;
-    for j in 0..n {
-        sum = weigh_at(sum, defects, row, place, weights[j], j);
-        place += 1;
+    let mut sum = 0;
+    let along = &defects[row..row + n];
+    for (&d, &w) in along.iter().zip(weights) {
+        sum = weigh(sum, d, w);
     }
     sum
 }
@@ -55,12 +44,7 @@ fn all_ones(weights: &[i64], n: usize) -> bool
     requires { (n ≤ 32) × (n ≤ length weights.now) }
     ensures { result ≡ true → (j : ℕ) → j < n → nat_abs (at weights.now j) ≡ 1 }
 {
-    for j in 0..n {
-        if weights[j] != 1 {
-            return false;
-        }
-    }
-    true
+    weights[..n].iter().all(|&w| w == 1)
 }
 
 // The load of row m, where `ones` is whether all weights are 1.
@@ -95,10 +79,11 @@ fn margin_of(
 {
     let full = power(t) * magnitude(weights[m]);
     let sum = load_of(defects, weights, ones, n, m, row);
-    if sum < full { full - sum } else { 0 }
+    full.saturating_sub(sum)
 }
 
-// The margins of all rows, from D, row after row.
+// The margins of all rows, from D, row after row. The start of a row is carried beside its number (docs/PROMISES.md: "the start of a row is carried from
+// row to row"), so the loop goes by number; `chunks_exact` has no chunks for n = 0.
 fn margins_from(out: &mut [u64; 32], t: u32, defects: &[i64], weights: &[i64], n: usize)
     requires t_bound { (t ≤ 20) × ((n ≤ 32) × (length out.old ≡ 32)) }
     requires column_list { ColumnList defects.now (n * n) (2 ^ 46) }
@@ -141,14 +126,10 @@ pub fn margins_of(
     margins_from(out, t, &defects_of(t, matrix, inverse, n), weights, n);
 }
 
-// The first margin that is 0; n where there is none.
+// The first margin that is 0; n where there is none: the number that `judge` of check_ranges takes.
 pub fn first_zero(margins: &[u64; 32], n: usize) -> usize
     requires { n ≤ 32 }
     ensures { result ≡ first n (λ (m : ℕ). eqb (get_or margins.now m 0) 0) }
 {
-    let mut found = 0;
-    for m in 0..n {
-        found = first_or(found, m, margins[m] == 0);
-    }
-    found
+    margins[..n].iter().position(|&g| g == 0).unwrap_or(n)
 }

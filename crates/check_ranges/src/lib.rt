@@ -11,9 +11,7 @@ ghost use Rattle.rules.specs.Refusal.{code};
 ghost use Rattle.check_spec.specs.Input.{any_short, sizes_in_range, lists_in_range};
 ghost use Rattle.check_spec.specs.Order.{computed};
 
-use rules::{
-    COLUMN_LENGTH, Kind, MATRIX_LENGTH, Outcome, Refusal, all_in_range, is_natural_in_range,
-};
+use rules::{COLUMN_LENGTH, Kind, MATRIX_LENGTH, Refusal, all_in_range, is_natural_in_range};
 
 // 8: whether a list of one of these lengths is too short.
 pub fn is_short(
@@ -115,18 +113,18 @@ pub fn are_lists_in_range(
 }
 
 // 5, 6 and 7 in their order, from the first row of each; n, or n·n, where there is none.
-pub fn judge(n: usize, m: usize, k: usize, i: usize) -> Outcome
+pub fn judge(n: usize, m: usize, k: usize, i: usize) -> Result<(), Refusal>
     requires { (0 < n) × (n ≤ 32) }
     ensures { code result ≡ verdict (computed n m k i) }
 {
     if m < n {
-        return Outcome::Refused(Refusal::Margin(m as u32 + 1));
+        return Err(Refusal::Margin(m as u32 + 1));
     }
     if k < n {
-        return Outcome::Refused(Refusal::Residual(k as u32 + 1));
+        return Err(Refusal::Residual(k as u32 + 1));
     }
     if i < n * n {
-        return Outcome::Refused(Refusal::InverseResidual((i / n) as u32 + 1, (i % n) as u32 + 1));
+        return Err(Refusal::InverseResidual((i / n) as u32 + 1, (i % n) as u32 + 1));
     }
-    Outcome::Accepted
+    Ok(())
 }

@@ -6,7 +6,7 @@ use mathlib.Core.Bool.{Bool, true, false, cond}
 use Prim.Native.Nat.{ℕ, ◌+◌, ◌*◌, ◌/◌, ◌%◌, ◌≤◌, ◌<◌, ◌^◌}
 use native.Mathlib.Omega.{arith}
 use native.Mathlib.Nat.{le_antisymm, mul-le-mul, mul-le-mul_right, div-add-mod', mod-lt}
-use borrow.Author.Tests.{ltb-true, ltb-false, lt-ltb, le-ltb}
+use borrow.Author.Tests.{ltb-true, ltb-false}
 use lib.Dec.{ltb}
 use Rattle.integer.specs.LargestRatio.{LargestRatio}
 use Rattle.integer.proofs.LargestRatio.{largest_ratio_one, largest_ratio_stays, largest_ratio_moves}
@@ -77,24 +77,6 @@ narrow m p g e h l = rw e (record { low = omega (arith, mod-lt p h); high = l })
 -- each product of a remainder and a margin fits
 pub products : (a b : Ratio) → SmallTerms a → SmallTerms b → (a.remainder * b.margin ≤ 2 ^ 60) × (b.remainder * a.margin ≤ 2 ^ 60)
 products a b h k = (mul-le-mul h.low k.high, mul-le-mul k.low h.high)
-
--- the code's tests
-module _ (a b : Ratio) where
-  pub larger_ratio_1 : a.quotient < b.quotient → b ≡ larger_ratio_of a b
-  unfolding larger_ratio_of
-  larger_ratio_1 h = rw (lt-ltb _ _ h)
-
-  pub larger_ratio_2 : b.quotient ≤ a.quotient → b.quotient < a.quotient → a ≡ larger_ratio_of a b
-  unfolding larger_ratio_of
-  larger_ratio_2 h k = rw (le-ltb _ _ h, lt-ltb _ _ k)
-
-  pub larger_ratio_3 : b.quotient ≤ a.quotient → a.quotient ≤ b.quotient → a.remainder * b.margin < b.remainder * a.margin → b ≡ larger_ratio_of a b
-  unfolding larger_ratio_of
-  larger_ratio_3 h k l = rw (le-ltb _ _ h, le-ltb _ _ k, lt-ltb _ _ l)
-
-  pub larger_ratio_4 : b.quotient ≤ a.quotient → a.quotient ≤ b.quotient → b.remainder * a.margin ≤ a.remainder * b.margin → a ≡ larger_ratio_of a b
-  unfolding larger_ratio_of
-  larger_ratio_4 h k l = rw (le-ltb _ _ h, le-ltb _ _ k, le-ltb _ _ l)
 
 pub best_end : (magnitudes margins : ℕ → ℕ) {m n : ℕ} (best : Ratio) → m ≤ n → n ≤ m → Best magnitudes margins m best → LargestRatio n magnitudes margins best.row
 best_end magnitudes margins best p q b =

@@ -12,7 +12,7 @@ ghost use Rattle.enclosure.specs.Reckoning.{bound_from};
 ghost use Rattle.check_arrays.specs.Arrays.{PrefixIs};
 ghost use Rattle.check_ratios.specs.Ratio.{ratio_of, larger_ratio_of, SmallTerms, Positive, Bounded, WithinCaps, Caps};
 
-use integer::{ceil_div, larger, magnitude};
+use integer::{ceil_div, magnitude};
 
 // Magnitudes whose sum is below this have products with a margin below 2^63.
 const SMALL_SUM: u64 = 8589934592;
@@ -39,6 +39,7 @@ fn ratio_of(row: usize, p: u64, g: u64) -> Ratio
 }
 
 // The row with the larger ratio; a where they are equal.
+#[tactic(auto, unfolding(crate::specs::Ratio::larger_ratio_of))]
 fn larger_ratio(a: Ratio, b: Ratio) -> Ratio
     requires { SmallTerms a × SmallTerms b }
     ensures { result ≡ larger_ratio_of a b }
@@ -55,7 +56,8 @@ fn larger_ratio(a: Ratio, b: Ratio) -> Ratio
     a
 }
 
-// A row where magnitudes / margins is largest, found by quotients and remainders.
+// A row where magnitudes / margins is largest, found by quotients and remainders. The row number is part of a ratio, so the loops here and by products
+// go by it: `zip`, `enumerate` and `skip` over two arrays are no plainer.
 fn largest_ratio_by_quotients(magnitudes: &[u64; 32], margins: &[u64; 32], n: usize) -> usize
     requires n_nonzero { (0 < n) × (n ≤ 32) }
     requires positive { Positive margins.now n }
@@ -99,11 +101,7 @@ pub fn sum_of(xs: &[u64; 32], n: usize) -> u64
     requires bounded { Bounded xs.now n }
     ensures { result ≡ sumℕ n (λ (k : ℕ). get_or xs.now k 0) }
 {
-    let mut sum: u64 = 0;
-    for k in 0..n {
-        sum += xs[k];
-    }
-    sum
+    xs[..n].iter().sum()
 }
 
 // A row where magnitudes / margins is largest.
@@ -127,7 +125,8 @@ fn bound_of(w: i64, p: u64, g: u64) -> u64
     ceil_div(magnitude(w) * p, g)
 }
 
-// The limits of a column by the row with the largest ratio.
+// The limits of a column by the row with the largest ratio. Arrays are filled by index, here and in `caps_of`: after a loop over `iter_mut().zip(..)` the
+// proof knows no number that was written (tried).
 pub fn ratio_bounds(
     magnitudes: &[u64; 32],
     margins: &[u64; 32],
@@ -145,8 +144,8 @@ pub fn ratio_bounds(
     let p = magnitudes[k];
     let g = margins[k];
     let mut out = [0u64; 32];
-    for i in 0..n {
-        out[i] = bound_of(weights[i], p, g);
+    for (i, &w) in weights[..n].iter().enumerate() {
+        out[i] = bound_of(w, p, g);
     }
     out
 }
@@ -156,12 +155,7 @@ pub fn is_within_caps(magnitudes: &[u64; 32], caps: &[u64; 32], n: usize) -> boo
     requires { n ≤ 32 }
     ensures { result ≡ true → WithinCaps magnitudes.now caps.now n }
 {
-    for m in 0..n {
-        if caps[m] < magnitudes[m] {
-            return false;
-        }
-    }
-    true
+    magnitudes[..n].iter().zip(caps).all(|(p, cap)| p <= cap)
 }
 
 // Whether n numbers are all 0.
@@ -170,12 +164,7 @@ pub fn all_zero(xs: &[u64; 32], n: usize) -> bool
     ensures { (result ≡ true → sumℕ n (λ (k : ℕ). get_or xs.now k 0) ≡ 0)
         × (result ≡ false → 0 < sumℕ n (λ (k : ℕ). get_or xs.now k 0)) }
 {
-    for k in 0..n {
-        if xs[k] != 0 {
-            return false;
-        }
-    }
-    true
+    xs[..n].iter().all(|&x| x == 0)
 }
 
 // The largest weight.
@@ -184,11 +173,9 @@ fn largest_weight(weights: &[i64], n: usize) -> u64
     requires column_list { ColumnList weights.now n 1024 }
     ensures { result ≡ largest n (λ (i : ℕ). nat_abs (at weights.now i)) }
 {
-    let mut most = 0;
-    for i in 0..n {
-        most = larger(most, magnitude(weights[i]));
-    }
-    most
+    weights[..n]
+        .iter()
+        .fold(0u64, |most, w| most.max(w.unsigned_abs()))
 }
 
 // The caps of all rows: each margin divided by the largest weight.
@@ -199,7 +186,7 @@ pub fn caps_of(out: &mut [u64; 32], margins: &[u64; 32], weights: &[i64], n: usi
     ensures { (length out.new ≡ 32) × Caps out.new margins.now weights.now n }
 {
     let most = largest_weight(weights, n);
-    for m in 0..n {
-        out[m] = margins[m] / most;
+    for (m, &g) in margins[..n].iter().enumerate() {
+        out[m] = g / most;
     }
 }

@@ -17,9 +17,8 @@ use Rattle.integer.proofs.Search.{first_past, first_never, clash}
 use Rattle.linear.proofs.Places.{place, square, place_column, place_row}
 use Rattle.linear.proofs.Written.{front_at}
 use Rattle.rules.specs.Order.{verdict}
-use Rattle.rules.specs.Refusal.{code}
-use Rattle.rules.specs.declared.Outcome.{Outcome}
-use Rattle.rules.specs.declared.Outcome.TheVariants.{Refused}
+use Rattle.rules.specs.Refusal.{code, Outcome}
+use Rattle.std.specs.Prelude.{Err}
 use Rattle.rules.specs.declared.Refusal.TheVariants.{TooShort, OutOfRange}
 use Rattle.rules.proofs.Verdicts.{accepted_new, accepted_old, nothing_is_not}
 use Rattle.enclosure.specs.Problem.{Problem}
@@ -78,7 +77,7 @@ code_sound P e =
     }
 
 -- ---- the three cases
-pub checked_short : (I : Input) → short I ≡ true → Checked I (Refused TooShort) I.solution_bounds I.inverse_bounds
+pub checked_short : (I : Input) → short I ≡ true → Checked I (Err TooShort) I.solution_bounds I.inverse_bounds
 unfolding solution_bounds_after inverse_bounds_after
 checked_short I e = record {
   says = sym (answer_short I e);
@@ -88,7 +87,7 @@ checked_short I e = record {
   accepts = λ N q H q' s r x. clash (short I) e s;
 }
 
-pub checked_range : (I : Input) → short I ≡ false → in_ranges I ≡ false → Checked I (Refused OutOfRange) I.solution_bounds I.inverse_bounds
+pub checked_range : (I : Input) → short I ≡ false → in_ranges I ≡ false → Checked I (Err OutOfRange) I.solution_bounds I.inverse_bounds
 unfolding solution_bounds_after inverse_bounds_after
 checked_range I e f = record {
   says = sym (answer_range I e f);

@@ -14,8 +14,7 @@ use Rattle.linear.specs.Written.{written}
 use Rattle.linear.proofs.Places.{place, square, place_column, place_row}
 use Rattle.linear.proofs.Written.{front_at, front_else}
 use Rattle.rules.specs.Order.{if_accepted}
-use Rattle.rules.specs.Refusal.{code}
-use Rattle.rules.specs.declared.Outcome.{Outcome}
+use Rattle.rules.specs.Refusal.{code, Outcome}
 use Rattle.rules.proofs.Verdicts.{accepted_new}
 use Rattle.enclosure.specs.Reckoning.{bound, inverse_bound}
 use Rattle.check_spec.specs.Checked.{Checked, solution_after, inverse_after, solution_bounds_after, inverse_bounds_after}

@@ -7,8 +7,7 @@ use Rattle.std.specs.Prelude.{true, false, List, [], ◌≡◌, ℕ, ◌+◌, �
 use Rattle.linear.specs.Matrix.{Vec, Mat}
 use Rattle.linear.specs.Written.{written}
 use Rattle.rules.specs.Order.{if_accepted}
-use Rattle.rules.specs.Refusal.{code}
-use Rattle.rules.specs.declared.Outcome.{Outcome}
+use Rattle.rules.specs.Refusal.{code, Outcome}
 use Rattle.enclosure.specs.Demand.{Encloses, RoundedExact}
 use Rattle.enclosure.specs.Reckoning.{bound, inverse_bound}
 use Rattle.check_spec.specs.Input.{Input, problem, short, in_ranges}

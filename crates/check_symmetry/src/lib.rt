@@ -12,13 +12,12 @@ fn is_row_symmetric(xs: &[i64], i: usize, start: usize, n: usize) -> bool
     requires carried { Carried 0 n i start }
     ensures { result ≡ true → (j : ℕ) → j < i → at xs.now (i * n + j) ≡ at xs.now (j * n + i) }
 {
-    let mut along = start;
+    // The column by a place that is carried: as `zip(xs[i..].iter().step_by(n)).all(..)`, tried, the proof did not close.
     let mut down = i;
-    for j in 0..i {
-        if xs[along] != xs[down] {
+    for &x in &xs[start..start + i] {
+        if x != xs[down] {
             return false;
         }
-        along += 1;
         down += n;
     }
     true
@@ -29,6 +28,7 @@ fn is_symmetric(xs: &[i64], n: usize) -> bool
     requires { (n ≤ 32) × (n * n ≤ length xs.now) }
     ensures { result ≡ true → Symmetric xs.now n }
 {
+    // As `(0..n).all(|i| ..)`, tried, the proof did not close: a row's answer is an implication, no equation.
     let mut start = 0;
     for i in 0..n {
         if !is_row_symmetric(xs, i, start, n) {
@@ -44,8 +44,5 @@ pub fn are_symmetric(xs: &[i64], ys: &[i64], n: usize) -> bool
     requires { (n ≤ 32) × ((n * n ≤ length xs.now) × (n * n ≤ length ys.now)) }
     ensures { result ≡ true → Symmetric xs.now n × Symmetric ys.now n }
 {
-    if is_symmetric(xs, n) {
-        return is_symmetric(ys, n);
-    }
-    false
+    is_symmetric(xs, n) && is_symmetric(ys, n)
 }

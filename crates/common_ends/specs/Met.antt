@@ -4,13 +4,13 @@
 --   lows_of k X E k' X' E', highs_of .. — the larger lower end and the smaller upper end
 --   Fitting n k X E — what the ends ask of one proposal: 2^k at most 2^20, the first n guesses in their range, no limit above 2^36
 --   Met — 21 and the interval lists as they were, or the ends in their first n places
-use Rattle.std.specs.Prelude.{Bool, true, false, ◌||◌, List, ◌≡◌, ℕ, ◌-◌, ◌≤◌, ◌<◌, ◌^◌, max, ltb, ℤ, pos, ◌+ℤ◌, ◌-ℤ◌, ◌*ℤ◌, get_or}
+use Rattle.std.specs.Prelude.{Bool, true, false, ◌||◌, List, ◌≡◌, ℕ, ◌-◌, ◌≤◌, ◌<◌, ◌^◌, max, ltb, ℤ, pos, ◌+ℤ◌, ◌-ℤ◌, ◌*ℤ◌, get_or, Ok, Err}
 use Rattle.integer.specs.Finite.{largest}
 use Rattle.linear.specs.Reach.{ColumnList}
 use Rattle.linear.specs.Slice.{at}
 use Rattle.linear.specs.Written.{written}
-use Rattle.common_spec.specs.declared.Common.{Common}
-use Rattle.common_spec.specs.declared.Common.TheVariants.{Found, TooWide}
+use Rattle.common_spec.specs.Answer.{Common}
+use Rattle.common_spec.specs.declared.CommonRefusal.TheVariants.{TooWide}
 use Rattle.common_spec.specs.Ends.{maxℤ, minℤ}
 use Rattle.common_spec.specs.Proposals.{most_steps}
 
@@ -38,7 +38,7 @@ pub record Fitting (n k : ℕ) (X : List ℤ) (E : List ℕ) : Type 0 where
   pub narrow : (i : ℕ) → i < n → limit_at E i ≤ most_steps
 
 pub data Met (n s : ℕ) (X : List ℤ) (E : List ℕ) (s' : ℕ) (X' : List ℤ) (E' : List ℕ) (low high : List ℤ) : Common → List ℤ → List ℤ → Type 0 where
-  too_wide : (wide_limits n E || wide_limits n E') ≡ true → Met n s X E s' X' E' low high TooWide low high
+  too_wide : (wide_limits n E || wide_limits n E') ≡ true → Met n s X E s' X' E' low high (Err TooWide) low high
   narrow : (low' high' : List ℤ) → (wide_limits n E || wide_limits n E') ≡ false →
       low' ≡ written low 0 1 (lows_of (max s s' - s) X E (max s s' - s') X' E') n → high' ≡ written high 0 1 (highs_of (max s s' - s) X E (max s s' - s') X' E') n →
-      Met n s X E s' X' E' low high Found low' high'
+      Met n s X E s' X' E' low high (Ok tt) low' high'

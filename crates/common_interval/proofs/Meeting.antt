@@ -17,7 +17,7 @@ use Rattle.integer.proofs.Search.{largest_ext}
 use Rattle.linear.specs.Reach.{ColumnList}
 use Rattle.linear.proofs.Written.{written_ext}
 use Rattle.rules.specs.Refusal.{code}
-use Rattle.rules.specs.declared.Outcome.TheVariants.{Accepted, Refused}
+use Rattle.std.specs.Prelude.{Ok, Err}
 use Rattle.rules.specs.declared.Refusal.{Refusal}
 use Rattle.rules.proofs.Ranges.{neither}
 use Rattle.enclosure.specs.Reckoning.{bound}
@@ -28,8 +28,7 @@ use Rattle.check_spec.specs.Stated.{LongEnough}
 use Rattle.check_spec.proofs.Lengths.{long_of}
 use Rattle.check_spec.proofs.Statements.{accepted_usable}
 use Rattle.check_spec.proofs.Written.{solution_written, accepted_fit, solution_at}
-use Rattle.common_spec.specs.declared.Common.{Common}
-use Rattle.common_spec.specs.Answer.{CommonAs}
+use Rattle.common_spec.specs.Answer.{Common, CommonAs}
 use Rattle.common_spec.specs.Ends.{finer, low_end, high_end}
 use Rattle.common_spec.specs.Proposals.{Proposals, short_intervals, same_equations, most_steps, is_too_wide}
 use Rattle.common_spec.proofs.Contract.{long_low, long_high, common_wide, common_found}
@@ -49,10 +48,10 @@ module _ (Q : Proposals) where
   long_both l h = neither (le-ltb (length Q.low) 32 l) (le-ltb (length Q.high) 32 h)
 
 module _ (I : Input) (c : Held) (x : HeldAs I c) where
-  pub code_refused : (r : Refusal) → c.outcome ≡ Refused r → code (Refused r) ≡ answer I
+  pub code_refused : (r : Refusal) → c.outcome ≡ Err r → code (Err r) ≡ answer I
   code_refused r e = ap code (sym e) ∙ x.says
 
-  pub code_accepted : c.outcome ≡ Accepted → answer I ≡ []
+  pub code_accepted : c.outcome ≡ Ok tt → answer I ≡ []
   code_accepted e = sym x.says ∙ ap code e
 
 module _ (I : Input) (a : answer I ≡ []) where

@@ -17,7 +17,7 @@ use Rattle.linear.specs.Written.{written}
 use Rattle.linear.proofs.Written.{front_at}
 use Rattle.rules.specs.Range.{short_column}
 use Rattle.rules.specs.Refusal.{code}
-use Rattle.rules.specs.declared.Outcome.TheVariants.{Refused}
+use Rattle.std.specs.Prelude.{Err, Ok}
 use Rattle.rules.specs.declared.Refusal.{Refusal}
 use Rattle.rules.proofs.Ranges.{neither_left, neither_right}
 use Rattle.rules.proofs.Verdicts.{accepted_new, accepted_old, nothing_is_not}
@@ -25,11 +25,10 @@ use Rattle.check_spec.specs.Order.{answer}
 use Rattle.check_spec.proofs.Fit.{fit_of}
 use Rattle.check_spec.proofs.Statements.{accepted_usable}
 use Rattle.check_spec.proofs.Written.{past_kept}
-use Rattle.common_spec.specs.declared.Common.{Common}
-use Rattle.common_spec.specs.declared.Common.TheVariants.{Found, TooShort, First, Second, Different, TooWide}
+use Rattle.common_spec.specs.Answer.{Common, common_code, common_answer, low_after, high_after, CommonAs}
+use Rattle.common_spec.specs.declared.CommonRefusal.TheVariants.{First, Second, TooShort, Different, TooWide}
 use Rattle.common_spec.specs.Proposals.{Proposals, short_intervals, same_equations, is_too_wide}
 use Rattle.common_spec.specs.Ends.{low_end, high_end}
-use Rattle.common_spec.specs.Answer.{common_code, common_answer, low_after, high_after, CommonAs}
 use Rattle.common_spec.proofs.Contains.{contains, contains_as}
 use Rattle.common_spec.proofs.Equations.{same_of}
 
@@ -85,30 +84,30 @@ module _ (Q : Proposals) where
     contains = λ z. absurd (nothing_is_not (sym s ∙ z));
   }
 
-  pub common_short : short_intervals Q ≡ true → CommonAs Q TooShort Q.low Q.high
-  common_short e = refused TooShort refl (answer_short Q e)
+  pub common_short : short_intervals Q ≡ true → CommonAs Q (Err TooShort) Q.low Q.high
+  common_short e = refused (Err TooShort) refl (answer_short Q e)
 
   module _ (e : short_intervals Q ≡ false) where
-    pub common_first : (r : Refusal) → code (Refused r) ≡ answer Q.first → CommonAs Q (First r) Q.low Q.high
-    common_first r a = refused (First r) refl (answer_first Q e (sym a))
+    pub common_first : (r : Refusal) → code (Err r) ≡ answer Q.first → CommonAs Q (Err (First r)) Q.low Q.high
+    common_first r a = refused (Err (First r)) refl (answer_first Q e (sym a))
 
     module _ (a : answer Q.first ≡ []) where
-      pub common_second : (r : Refusal) → code (Refused r) ≡ answer Q.second → CommonAs Q (Second r) Q.low Q.high
-      common_second r b = refused (Second r) refl (answer_second Q e a (sym b))
+      pub common_second : (r : Refusal) → code (Err r) ≡ answer Q.second → CommonAs Q (Err (Second r)) Q.low Q.high
+      common_second r b = refused (Err (Second r)) refl (answer_second Q e a (sym b))
 
       module _ (b : answer Q.second ≡ []) where
-        pub common_different : same_equations Q.first Q.second ≡ false → CommonAs Q Different Q.low Q.high
-        common_different s = refused Different refl (answer_different Q e a b s)
+        pub common_different : same_equations Q.first Q.second ≡ false → CommonAs Q (Err Different) Q.low Q.high
+        common_different s = refused (Err Different) refl (answer_different Q e a b s)
 
         module _ (s : same_equations Q.first Q.second ≡ true) where
-          pub common_wide : (is_too_wide Q.first || is_too_wide Q.second) ≡ true → CommonAs Q TooWide Q.low Q.high
-          common_wide w = refused TooWide refl (answer_wide Q e a b s w)
+          pub common_wide : (is_too_wide Q.first || is_too_wide Q.second) ≡ true → CommonAs Q (Err TooWide) Q.low Q.high
+          common_wide w = refused (Err TooWide) refl (answer_wide Q e a b s w)
 
           abbrev n : ℕ
           n = Q.first.n
 
           pub common_found : (is_too_wide Q.first || is_too_wide Q.second) ≡ false → {low high : List ℤ} → low ≡ written Q.low 0 1 (low_end Q.first Q.second) n →
-              high ≡ written Q.high 0 1 (high_end Q.first Q.second) n → CommonAs Q Found low high
+              high ≡ written Q.high 0 1 (high_end Q.first Q.second) n → CommonAs Q (Ok tt) low high
           unfolding low_after high_after
           common_found w {low} {high} l h =
               let f : common_answer Q ≡ [] = answer_found Q e a b s w in

@@ -24,11 +24,11 @@ use Rattle.common_spec.specs.Proposals.{all_same, same_equations}
 use Rattle.common_spec.specs.Stated.{SameEquations}
 
 -- ---- the test
-all_same_lem : (n : ℕ) (f g : ℕ → ℤ) → all_same n f g ≡ true → (k : ℕ) → k < n → f k ≡ g k
+pub all_same_lem : (n : ℕ) (f g : ℕ → ℤ) → all_same n f g ≡ true → (k : ℕ) → k < n → f k ≡ g k
 unfolding all_same
 all_same_lem n f g e k l = same_number_lem (f k) (g k) (every_at n (λ (i : ℕ). same_number (f i) (g i)) e k l)
 
-same_all : (n : ℕ) (f g : ℕ → ℤ) → ((k : ℕ) → k < n → f k ≡ g k) → all_same n f g ≡ true
+pub same_all : (n : ℕ) (f g : ℕ → ℤ) → ((k : ℕ) → k < n → f k ≡ g k) → all_same n f g ≡ true
 unfolding all_same
 same_all n f g h = every_in n (λ (i : ℕ). same_number (f i) (g i)) (λ k l. ap (λ (z : ℤ). same_number z (g k)) (h k l) ∙ number_same (g k))
 

@@ -21,10 +21,9 @@ use Rattle.check_spec.specs.Input.{Input, problem}
 use Rattle.check_spec.specs.Order.{answer}
 use Rattle.check_spec.specs.Stated.{Stated}
 use Rattle.check_spec.proofs.Statements as check
-use Rattle.common_spec.specs.declared.Common.{Common}
+use Rattle.common_spec.specs.Answer.{Common, common_code, common_answer, low_after, high_after, CommonAs}
 use Rattle.common_spec.specs.Proposals.{Proposals, proposals, short_intervals}
 use Rattle.common_spec.specs.Ends.{maxℤ, minℤ, finer, in_steps, low_of, high_of, low_end, high_end}
-use Rattle.common_spec.specs.Answer.{common_code, common_answer, low_after, high_after, CommonAs}
 use Rattle.common_spec.specs.Stated.{SameEquations, NoneWide, BothAccepted, CommonStated, interval_short, of_first, of_second, different, first_wide, second_wide, found}
 use Rattle.common_spec.specs.Promised.{exchanged, Exchanged, of_neither_lem, first_alone, second_alone, both, OwnEnds}
 use Rattle.common_spec.specs.Promised as promised

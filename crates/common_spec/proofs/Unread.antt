@@ -16,10 +16,9 @@ use Rattle.check_spec.specs.Agree.{Agree}
 use Rattle.check_spec.specs.Input.{Input, problem}
 use Rattle.check_spec.specs.Order.{answer}
 use Rattle.check_spec.proofs.Agreed.{like, like_is, like_bound, same_answer}
-use Rattle.common_spec.specs.declared.Common.{Common}
+use Rattle.common_spec.specs.Answer.{Common, common_code, common_answer, low_after, high_after, CommonAs}
 use Rattle.common_spec.specs.Proposals.{Proposals, proposals, same_equations, most_steps, is_too_wide}
 use Rattle.common_spec.specs.Ends.{maxℤ, minℤ, finer, in_steps, low_end, high_end}
-use Rattle.common_spec.specs.Answer.{common_code, common_answer, low_after, high_after, CommonAs}
 use Rattle.common_spec.specs.Stated.{SameEquations}
 use Rattle.common_spec.specs.Agree.{AgreeingProposals, SameCommon}
 use Rattle.common_spec.proofs.Contract.{long_low, long_high}

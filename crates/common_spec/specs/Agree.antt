@@ -4,9 +4,8 @@
 use Rattle.std.specs.Prelude.{false, List, [], ◌≡◌, ℕ, ◌<◌, ℤ}
 use Rattle.linear.specs.Slice.{at}
 use Rattle.check_spec.specs.Agree.{Agree}
-use Rattle.common_spec.specs.declared.Common.{Common}
+use Rattle.common_spec.specs.Answer.{Common, common_code}
 use Rattle.common_spec.specs.Proposals.{Proposals, short_intervals}
-use Rattle.common_spec.specs.Answer.{common_code}
 
 pub record AgreeingProposals (Q R : Proposals) : Type 0 where
   pub first : Agree Q.first R.first

@@ -3,10 +3,9 @@
 
 use rules::Refusal;
 
+// Why no common intervals are written.
 #[derive(Clone, Copy)]
-pub enum Common {
-    // the common intervals are written
-    Found,
+pub enum CommonRefusal {
     // 8 for an interval list, of neither proposal
     TooShort,
     // a refusal of the first proposal

@@ -19,7 +19,8 @@ use Rattle.listing_refusal.specs.Answered.{Answered}
 use Rattle.listing_refusal.specs.declared.FileAnswer.{FileAnswer}
 use Rattle.file_check.specs.Judged.{line_or}
 use Rattle.convert_spec.specs.declared.Conversion.{Conversion}
-use Rattle.convert_spec.specs.declared.Converted.TheVariants.{Length, Refused, NotConvertible}
+use Rattle.convert_spec.specs.declared.ConversionRefusal.TheVariants.{Refused, NotConvertible}
+use Rattle.std.specs.Prelude.{Ok, Err}
 use Rattle.convert_spec.specs.Converted.{convert_code, length_of, convert_answer, converted_text, ConvertedAt}
 use Rattle.convert_spec.specs.File.{new_file}
 use Rattle.convert_spec.proofs.Text.{text_is}
@@ -40,7 +41,7 @@ module _ (file : List ℕ) {o p : List ℕ} {r : Conversion} (x : ConvertedAt fi
       line_first l [] = refl
       line_first l (v ∷ vs) = refl
 
-  pub shown_file : {k : ℕ} → r.answer ≡ Length k → Shown file k p
+  pub shown_file : {k : ℕ} → r.answer ≡ Ok k → Shown file k p
   shown_file {k} e =
       let a : convert_answer file 32768 ≡ [] = code_is ∙ ap convert_code e in
       let b : convert_answer file (length o) ≡ [] = ap (convert_answer file) room ∙ a in
@@ -53,7 +54,7 @@ module _ (file : List ℕ) {o p : List ℕ} {r : Conversion} (x : ConvertedAt fi
     written_shown : {t q : List ℕ} {end : ℕ} → Wrote 32768 p 0 t q end → t ≡ converted_text file → Shown file end q
     written_shown w e = (omega (arith, w.end_is, ap length e), taken_text w (omega (arith, kept, room)) ∙ e)
 
-    pub shown_refusal : {f : Refusal} {q : List ℕ} {a : FileAnswer} → r.answer ≡ Refused f
+    pub shown_refusal : {f : Refusal} {q : List ℕ} {a : FileAnswer} → r.answer ≡ Err (Refused f)
         → Answered (printed r.line (number_of f ∷ values_of f)) (refused_of (printed r.line (number_of f ∷ values_of f))) p q a → Shown file a.length q
     shown_refusal {f} e w = written_shown w.wrote (refused_text (number_of f) (values_of f) (ap convert_code e))
 
@@ -61,5 +62,5 @@ module _ (file : List ℕ) {o p : List ℕ} {r : Conversion} (x : ConvertedAt fi
     unfolding each
     one_shown l = refl
 
-    pub shown_unfit : {q : List ℕ} {end : ℕ} → r.answer ≡ NotConvertible → Wrote 707 p 0 (list_line (bytes "(refused ") 22 1 (λ (j : ℕ). get_or (r.line ∷ []) (0 + j) 0)) q end → Shown file end q
+    pub shown_unfit : {q : List ℕ} {end : ℕ} → r.answer ≡ (Err NotConvertible) → Wrote 707 p 0 (list_line (bytes "(refused ") 22 1 (λ (j : ℕ). get_or (r.line ∷ []) (0 + j) 0)) q end → Shown file end q
     shown_unfit e w = written_shown (wider 32768 (omega arith) w) (one_shown r.line ∙ refused_text 22 [] (ap convert_code e))

@@ -1,14 +1,14 @@
 // The program: a file on standard input, the same file for offices on the old edition on standard output, or the line of a refusal.
 #![tactic(auto)]
 
-ghost use Rattle.std.specs.Prelude.{◌≤◌, ◌≡◌, length, take};
+ghost use Rattle.std.specs.Prelude.{◌≡◌, length, take};
 ghost use Rattle.convert_spec.specs.Converted.{converted_text};
 
-use convert_spec::Converted;
+use convert_spec::ConversionRefusal;
 use converter::convert_file;
 use listing_refusal::put_refusal;
 use listing_text::put_list;
-use program_input::{BytesRead, fill, skip_rest};
+use program_input::read_front;
 use std::io::Stderr;
 
 fn report(errors: Stderr, text: &[u8]) {
@@ -29,40 +29,33 @@ fn put_text(file: &[u8], out: &mut [u8; 32768]) -> usize
     ensures { (result ≡ length (converted_text file.now)) × (take result out.new ≡ converted_text file.now) }
 {
     let conversion = convert_file(file, out);
-    let answer = conversion.answer;
-    match answer {
-        Converted::Length(length) => length,
-        Converted::Refused(refusal) => {
-            let status = put_refusal(out, refusal, conversion.line);
-            status.length
-        }
-        Converted::NotConvertible => {
-            let shown = [conversion.line];
-            put_list(out, 0, b"(refused ", 22, &shown, 0, 1)
-        }
+    match conversion.answer {
+        Ok(length) => length,
+        Err(error) => match error {
+            ConversionRefusal::Refused(refusal) => put_refusal(
+                out,
+                refusal,
+                conversion.line,
+            ).length,
+            ConversionRefusal::NotConvertible => {
+                let shown = [conversion.line];
+                put_list(out, 0, b"(refused ", 22, &shown, 0, 1)
+            }
+        },
     }
 }
 
-// The text of the first n bytes read, which decide the whole file.
-fn print_text(rt: &HostRuntime, text: [u8; 65536], n: usize)
-    requires { n ≤ 65536 }
-{
+// The text of the bytes read, which decide the whole file.
+fn print_text(rt: &HostRuntime, file: &[u8]) {
     let mut out = [0u8; 32768];
-    let k = put_text(&text[..n], &mut out);
-    write_text(rt, &text[..n], &out[..k]);
+    let k = put_text(file, &mut out);
+    write_text(rt, file, &out[..k]);
 }
 
 fn main(rt: HostRuntime) {
-    let mut input = rt.stdin();
     let mut text = [0u8; 65536];
-    match fill(&mut input, &mut text) {
-        BytesRead::Failed => report(rt.stderr(), b"convert: the input could not be read\n"),
-        BytesRead::Bytes(n) => {
-            if skip_rest(&mut input) {
-                print_text(&rt, text, n);
-            } else {
-                report(rt.stderr(), b"convert: the input could not be read\n");
-            }
-        }
+    match read_front(&mut rt.stdin(), &mut text) {
+        Ok(n) => print_text(&rt, &text[..n]),
+        Err(_) => report(rt.stderr(), b"convert: the input could not be read\n"),
     }
 }

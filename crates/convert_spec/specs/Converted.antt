@@ -1,6 +1,7 @@
 -- What a converter says and writes. Document 02, Paper 14: "A converter takes any file whose every line the desk accepts, end among them [..] The answer is
 -- the new file's length, and the buffer past it stays as it was. [..] (The desk's refusals first, and 15 where the file stops before an end. New 22, after
 -- them, if any tolerance is above 0, or the output buffer is shorter than the new file; nothing is written.)"
+--   Converted      — the answer: the new file's length, or a refusal
 --   convert_code r — what an answer says, in the documents' numbers: nothing where a file is written;  length_of r — the length it gives; 0 on a refusal
 --   some_tolerance P — a tolerance is above 0
 --   conversion_order file room — the tests of a file whose lines are all accepted, for a buffer of the length room
@@ -11,7 +12,7 @@
 --   refusal_numbers file room — what is said in the numbers of a refusal's line, as `register` prints it: with the number of the line where a line is refused
 --     by its number alone, else with 0;  converted_text file — what the program prints: that line, or the new file
 --   ConvertedAt     — the contract of the call that the program makes: the answer, and the number of the line to print
-use Rattle.std.specs.Prelude.{Bool, not, ◌||◌, List, [], ◌∷◌, ◌++◌, ◌≡◌, ℕ, ltb, length, drop}
+use Rattle.std.specs.Prelude.{Bool, not, ◌||◌, List, [], ◌∷◌, ◌++◌, ◌≡◌, ℕ, ltb, length, drop, Result, Ok, Err}
 use Rattle.integer.specs.Finite.{largest}
 use Rattle.rules.specs.Order.{Test, number, verdict, if_accepted, or_else}
 use Rattle.rules.specs.Refusal.{number_of, values_of}
@@ -22,19 +23,22 @@ use Rattle.listing_refusal.specs.Refused.{printed}
 use Rattle.file_check.specs.Judged.{line_or}
 use Rattle.listing.specs.Listing.{problem_in}
 use Rattle.convert_spec.specs.declared.Conversion.{Conversion}
-use Rattle.convert_spec.specs.declared.Converted.{Converted}
-use Rattle.convert_spec.specs.declared.Converted.TheVariants.{Length, Refused, NotConvertible}
+use Rattle.convert_spec.specs.declared.ConversionRefusal.{ConversionRefusal}
+use Rattle.convert_spec.specs.declared.ConversionRefusal.TheVariants.{Refused, NotConvertible}
 use Rattle.convert_spec.specs.File.{new_file}
 
+abbrev pub Converted : Type 0
+Converted = Result ℕ ConversionRefusal
+
 abbrev pub convert_code : Converted → List ℕ
-convert_code (Length n) = []
-convert_code (Refused r) = number_of r ∷ values_of r
-convert_code NotConvertible = 22 ∷ []
+convert_code (Ok n) = []
+convert_code (Err (Refused r)) = number_of r ∷ values_of r
+convert_code (Err NotConvertible) = 22 ∷ []
 
 abbrev pub length_of : Converted → ℕ
-length_of (Length n) = n
-length_of (Refused r) = 0
-length_of NotConvertible = 0
+length_of (Ok n) = n
+length_of (Err (Refused r)) = 0
+length_of (Err NotConvertible) = 0
 
 abbrev pub some_tolerance : Problem → Bool
 some_tolerance P = ltb 0 (largest P.n P.d)

@@ -1,19 +1,22 @@
 -- What the collected numbers are known to be, once every one that counts is in its range, and the lines that they give.
 --   small_read    — a number that fits with room for its sign is read back as itself
---   none_more, one_found, none_found — whether one of the first numbers is other than 0
+--   any_above — whether one of the first numbers is other than 0
 --   size          — n is 1 to 32
 --   matrix_small, inverse_small, right_small, guess_small, tolerance_small, weight_small — a number fits a machine integer with room for its sign
 --   held_in_range — the problem's numbers are in their ranges
 --   most_is, line_of — a part's line, by the part;  row_text_lem, right_text, guess_text, inverse_text, weight_text — its bytes are those of the part's form
 use mathlib.Core.Path.{◌≡◌, refl, sym, ap, subst, ◌∙◌}
-use mathlib.Core.Bool.{true, false}
+use mathlib.Core.Bool.{Bool, true, false, ◌||◌}
+use native.Mathlib.Numerals.{add-one}
+use Rattle.std.specs.List.{list_any}
+use Rattle.std.proofs.lemmas.List.Folds.{list_any_more}
 use mathlib.Core.List.{List, [], ◌∷◌}
-use Prim.Native.Nat.{ℕ, suc, ◌+◌, ◌*◌, ◌≤◌, ◌<◌, ◌^◌}
+use Prim.Native.Nat.{ℕ, zero, suc, max, ◌+◌, ◌*◌, ◌≤◌, ◌<◌, ◌^◌}
 use native.Mathlib.Omega.{arith}
 use borrow.Author.Tests.{lt-ltb, le-ltb}
 use lib.Dec.{ltb}
 use lib.IntN.{ℤ, pos, nat_abs}
-use lib.ListN.{length, length-append}
+use lib.ListN.{length, take, length-append}
 use lib.Seq.{sets}
 use Rattle.integer.specs.Finite.{largest}
 use Rattle.integer.proofs.Search.{largest_next, largest_end, largest_at}
@@ -46,14 +49,17 @@ pub small_read : (z : ℤ) → nat_abs z < 2 ^ 63 → to_z w64 (of_z w64 z) ≡ 
 small_read z h = read z (small z h).sfits
 
 -- ---- whether one number is other than 0
-pub none_more : (f : ℕ → ℕ) {i : ℕ} → largest i f ≡ 0 → f i ≤ 0 → largest (i + 1) f ≡ 0
-none_more f {i} e h = largest_next i f ∙ omega arith
+above_zero : (a b : ℕ) → ltb 0 (max a b) ≡ ltb 0 a || ltb 0 b
+above_zero zero zero = refl
+above_zero zero (suc b) = rw (lt-ltb 0 (max 0 (suc b)) (omega arith), lt-ltb 0 (suc b) (omega arith))
+above_zero (suc a) b = rw (lt-ltb 0 (max (suc a) b) (omega arith), lt-ltb 0 (suc a) (omega arith))
 
-pub one_found : (f : ℕ → ℕ) {i n : ℕ} → i < n → 0 < f i → true ≡ ltb 0 (largest n f)
-one_found f {i} {n} l h = sym (lt-ltb 0 (largest n f) (omega (arith, largest_at n f i l)))
-
-pub none_found : (f : ℕ → ℕ) {i n : ℕ} → largest i f ≡ 0 → i ≤ n → n ≤ i → false ≡ ltb 0 (largest n f)
-none_found f {i} {n} e a b = sym (le-ltb 0 (largest n f) (omega (arith, e, largest_end f a b)))
+pub any_above : (n : ℕ) (xs : List ℤ) → n ≤ length xs → list_any (λ (z : ℤ). ltb 0 (nat_abs z)) (take n xs) ≡ ltb 0 (largest n (λ (i : ℕ). nat_abs (at xs i)))
+unfolding largest
+any_above zero xs h = refl
+any_above (suc n) xs h =
+    let e = rw add-one at (list_any_more (λ (z : ℤ). ltb 0 (nat_abs z)) xs n (pos 0) (omega arith)) in
+    rw (e, any_above n xs (omega arith)) (sym (above_zero (largest n (λ (i : ℕ). nat_abs (at xs i))) (nat_abs (at xs n))))
 
 -- ---- sizes
 module _ (c : Collected) (r : InRange (state_of c)) where

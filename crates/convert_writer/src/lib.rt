@@ -1,21 +1,20 @@
 // The new file of a converter, written into a buffer line by line. Each function gives the index after what it wrote.
 #![tactic(auto)]
 
-ghost use Rattle.std.specs.Prelude.{◌≡◌, ◌++◌, ℕ, ◌+◌, ◌*◌, ◌≤◌, ◌<◌, ◌^◌, ltb, pos, nat_abs, length};
+ghost use Rattle.std.specs.Prelude.{◌≡◌, ℕ, ◌+◌, ◌*◌, ◌≤◌, ◌<◌, ◌^◌, ltb, pos, nat_abs, length};
 ghost use Rattle.integer.specs.Finite.{largest};
 ghost use Rattle.linear.specs.Slice.{at as number};
-ghost use Rattle.line_numeral.specs.Decimal.{numeral};
 ghost use Rattle.line_form.specs.Form.{problem, scale};
-ghost use Rattle.listing_text.specs.Line.{each, gap};
+ghost use Rattle.listing_text.specs.Line.{each};
 ghost use Rattle.listing_text.specs.Wrote.{Wrote};
 ghost use Rattle.loader_runs.specs.Holds.{InRange};
 ghost use Rattle.file.specs.Read.{state_of};
 ghost use Rattle.convert_spec.specs.Converted.{some_tolerance};
 ghost use Rattle.convert_spec.specs.File.{form_for, old_file};
-ghost use Rattle.convert_writer.specs.Written.{held_by, form_line, rest_of, integers, value_text, row_text, most_for, line_room, SmallFrom, FirstSmall};
+ghost use Rattle.convert_writer.specs.Written.{held_by, form_line, rest_of, value_text, most_for, line_room, FirstSmall};
 
 use file::Collected;
-use listing_text::{put_bytes, put_gap, put_integer, put_natural};
+use listing_text::{put_bytes, put_integer, put_list, put_natural};
 use loader_values::Part;
 
 // (word i z)
@@ -30,86 +29,27 @@ fn put_value(out: &mut [u8], at: usize, word: &[u8], i: u64, z: i64) -> usize
     put_bytes(out, d, b")\n")
 }
 
-// The number at index j of a row, and the space before it.
-fn put_next(out: &mut [u8], at: usize, j: usize, z: i64) -> usize
-    requires { (nat_abs z < 2 ^ 63) × (at + 21 ≤ length out.old) }
-    ensures { Wrote 21 out.old at (gap j ++ numeral z) out.new result }
-{
-    let a = put_gap(out, at, j);
-    put_integer(out, a, z)
-}
-
-// The n numbers from an index of a list on, single spaces between them.
-fn put_integers(out: &mut [u8], at: usize, values: &[i64; 1024], start: usize, n: usize) -> usize
-    requires n_bound { (n ≤ 32) × ((start + n ≤ 1024) × (at + n * 21 ≤ length out.old)) }
-    requires small_from { SmallFrom values.now start n }
-    ensures { Wrote (n * 21) out.old at (integers n (λ (j : ℕ). number values.now (start + j))) out.new result }
-{
-    let mut index = at;
-    for j in 0..n {
-        index = put_next(out, index, j, values[start + j]);
-    }
-    index
-}
-
-// (word i (v .. v))
-fn put_row(
-    out: &mut [u8],
-    at: usize,
-    word: &[u8],
-    i: u64,
-    values: &[i64; 1024],
-    start: usize,
-    n: usize,
-) -> usize
-    requires word_len_bound { (length word.now ≤ 10) × ((n ≤ 32) × ((start + n ≤ 1024) × (at + 707 ≤ length out.old))) }
-    requires small_from { SmallFrom values.now start n }
-    ensures { Wrote 707 out.old at
-        (row_text word.now i n (λ (j : ℕ). number values.now (start + j))) out.new result }
-{
-    let a = put_bytes(out, at, word);
-    let b = put_natural(out, a, i);
-    let c = put_bytes(out, b, b" (");
-    let d = put_integers(out, c, values, start, n);
-    put_bytes(out, d, b"))\n")
-}
-
 // The line of a part for row i.
-fn put_line(out: &mut [u8], at: usize, part: Part, i: usize, n: usize, c: Collected) -> usize
-    requires in_range { InRange (state_of c) }
-    requires n_value { (n ≡ c.loader.n) × ((n ≤ 32) × ((i < n) × (at + line_room ≤ length out.old))) }
-    ensures { Wrote (most_for part) out.old at (form_line (form_for (held_by c) part i)) out.new result }
+fn put_line(out: &mut [u8], at: usize, part: Part, i: usize, n: usize, c: &Collected) -> usize
+    requires in_range { InRange (state_of c.now) }
+    requires n_value { (n ≡ c.now.loader.n) × ((n ≤ 32) × ((i < n) × (at + line_room ≤ length out.old))) }
+    ensures { Wrote (most_for part) out.old at (form_line (form_for (held_by c.now) part i)) out.new result }
 {
     let number = i as u64 + 1;
     match part {
-        Part::Row => {
-            let matrix = c.matrix;
-            put_row(out, at, b"(row ", number, &matrix, i * n, n)
-        }
-        Part::Right => {
-            let right = c.right;
-            put_value(out, at, b"(right ", number, right[i])
-        }
-        Part::Guess => {
-            let guess = c.guess;
-            put_value(out, at, b"(guess ", number, guess[i])
-        }
-        Part::Inverse => {
-            let inverse = c.inverse;
-            put_row(out, at, b"(inverse ", number, &inverse, i * n, n)
-        }
-        Part::Weight => {
-            let weights = c.weights;
-            put_value(out, at, b"(weight ", number, weights[i])
-        }
+        Part::Row => put_list(out, at, b"(row ", number, &c.matrix, i * n, n),
+        Part::Right => put_value(out, at, b"(right ", number, c.right[i]),
+        Part::Guess => put_value(out, at, b"(guess ", number, c.guess[i]),
+        Part::Inverse => put_list(out, at, b"(inverse ", number, &c.inverse, i * n, n),
+        Part::Weight => put_value(out, at, b"(weight ", number, c.weights[i]),
     }
 }
 
-// The lines of a part, by rising i.
-fn put_part(out: &mut [u8], at: usize, part: Part, n: usize, c: Collected) -> usize
-    requires in_range { InRange (state_of c) }
-    requires n_value { (n ≡ c.loader.n) × ((n ≤ 32) × (at + n * most_for part + line_room ≤ length out.old)) }
-    ensures { Wrote (n * most_for part) out.old at (each n (λ (i : ℕ). form_line (form_for (held_by c) part i))) out.new result }
+// The lines of a part, by rising i. The part says which: a closure that writes into the buffer would need `form_line` in its contract at each of five calls.
+fn put_part(out: &mut [u8], at: usize, part: Part, n: usize, c: &Collected) -> usize
+    requires in_range { InRange (state_of c.now) }
+    requires n_value { (n ≡ c.now.loader.n) × ((n ≤ 32) × (at + n * most_for part + line_room ≤ length out.old)) }
+    ensures { Wrote (n * most_for part) out.old at (each n (λ (i : ℕ). form_line (form_for (held_by c.now) part i))) out.new result }
 {
     let mut index = at;
     for i in 0..n {
@@ -141,10 +81,10 @@ fn put_scale(out: &mut [u8], at: usize, s: u64, t: u64) -> usize
 }
 
 // The lines of the parts, part after part, and the end.
-fn put_rest(out: &mut [u8], at: usize, n: usize, c: Collected) -> usize
-    requires in_range { InRange (state_of c) }
-    requires n_value { (n ≡ c.loader.n) × ((n ≤ 32) × (at + 22100 ≤ length out.old)) }
-    ensures { Wrote 21318 out.old at (rest_of (held_by c)) out.new result }
+fn put_rest(out: &mut [u8], at: usize, n: usize, c: &Collected) -> usize
+    requires in_range { InRange (state_of c.now) }
+    requires n_value { (n ≡ c.now.loader.n) × ((n ≤ 32) × (at + 22100 ≤ length out.old)) }
+    ensures { Wrote 21318 out.old at (rest_of (held_by c.now)) out.new result }
 {
     let d = put_part(out, at, Part::Row, n, c);
     let e = put_part(out, d, Part::Right, n, c);
@@ -162,11 +102,11 @@ pub fn put_file(out: &mut [u8], c: Collected) -> usize
 {
     let loader = c.loader;
     let n = loader.size() as usize;
-    let s = loader.solution_scale() as u64;
-    let t = loader.inverse_scale() as u64;
+    let s = u64::from(loader.solution_scale());
+    let t = u64::from(loader.inverse_scale());
     let a = put_problem(out, 0, n as u64);
     let b = put_scale(out, a, s, t);
-    put_rest(out, b, n, c)
+    put_rest(out, b, n, &c)
 }
 
 // Whether one of the first n numbers is other than 0.
@@ -174,12 +114,7 @@ fn has_other(values: &[i64; 32], n: usize) -> bool
     requires { (n ≤ 32) × FirstSmall values.now n }
     ensures { result ≡ ltb 0 (largest n (λ (i : ℕ). nat_abs (number values.now i))) }
 {
-    for i in 0..n {
-        if 0 < integer::magnitude(values[i]) {
-            return true;
-        }
-    }
-    false
+    values[..n].iter().any(|v| *v != 0)
 }
 
 // Whether a tolerance is above 0.
@@ -187,7 +122,5 @@ pub fn has_tolerance(c: Collected) -> bool
     requires { InRange (state_of c) }
     ensures { result ≡ some_tolerance (held_by c) }
 {
-    let loader = c.loader;
-    let tolerance = c.tolerance;
-    has_other(&tolerance, loader.size() as usize)
+    has_other(&c.tolerance, c.loader.size() as usize)
 }

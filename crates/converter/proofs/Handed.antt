@@ -16,9 +16,9 @@ use Rattle.rules.proofs.Ranges.{neither_right}
 use Rattle.loader_progress.specs.Progress.{ended}
 use Rattle.listing_text.specs.Wrote.{Wrote}
 use Rattle.file.specs.declared.Collected.{Collected}
-use Rattle.convert_spec.specs.declared.Converted.{Converted}
-use Rattle.convert_spec.specs.declared.Converted.TheVariants.{Length, Refused, NotConvertible}
-use Rattle.convert_spec.specs.Converted.{some_tolerance, Delivered}
+use Rattle.convert_spec.specs.Converted.{Converted, some_tolerance, Delivered}
+use Rattle.convert_spec.specs.declared.ConversionRefusal.TheVariants.{Refused, NotConvertible}
+use Rattle.std.specs.Prelude.{Ok, Err}
 use Rattle.convert_spec.specs.File.{old_file}
 use Rattle.convert_writer.specs.Written.{held_by}
 use Rattle.converter.specs.Held.{unfit, held_answer}
@@ -28,14 +28,14 @@ from_start : {most end : ℕ} {o t p : List ℕ} → Wrote most o 0 t p end → 
 from_start {most} {end} {o} {t} {p} w h = let z : 0 + length t ≡ length t = omega arith in w.stored ∙ sets-eq t o 0 (omega arith) ∙ rw z
 
 module _ (tolerance : Bool) (o t : List ℕ) where
-  pub handed_none : tolerance || ltb (length o) (length t) ≡ true → Delivered (unfit tolerance (length o) (length t)) t o o NotConvertible
+  pub handed_none : tolerance || ltb (length o) (length t) ≡ true → Delivered (unfit tolerance (length o) (length t)) t o o (Err NotConvertible)
   handed_none e = rw e (record { says = refl; size = refl; bytes = refl })
 
   module _ (e : tolerance || ltb (length o) (length t) ≡ false) where
     pub handed_room : 0 + length t ≤ length o
     handed_room = omega (arith, ltb-false (length o) (length t) (neither_right tolerance (ltb (length o) (length t)) e))
 
-    pub handed : {p : List ℕ} {most end : ℕ} → Wrote most o 0 t p end → Delivered (unfit tolerance (length o) (length t)) t o p (Length end)
+    pub handed : {p : List ℕ} {most end : ℕ} → Wrote most o 0 t p end → Delivered (unfit tolerance (length o) (length t)) t o p (Ok end)
     handed w = rw e (record { says = refl; size = omega (arith, w.end_is); bytes = from_start w (omega (arith, handed_room)) })
 
 -- ---- the first bytes of a buffer
@@ -55,5 +55,5 @@ module _ (c : Collected) {o p : List ℕ} {r : Converted} where
       → Delivered (held_answer c (length o)) (old_file (held_by c)) o p r
   held_delivered z e f x = rw z (rw (e, f) at x)
 
-pub open_delivered : (c : Collected) (o : List ℕ) → ended c.loader.stage ≡ false → Delivered (held_answer c (length o)) (old_file (held_by c)) o o (Refused NotEnded)
+pub open_delivered : (c : Collected) (o : List ℕ) → ended c.loader.stage ≡ false → Delivered (held_answer c (length o)) (old_file (held_by c)) o o (Err (Refused NotEnded))
 open_delivered c o z = rw z (record { says = refl; size = refl; bytes = refl })

@@ -12,7 +12,7 @@ use lib.ListN.{length}
 use Rattle.integer.specs.Finite.{largest}
 use Rattle.integer.proofs.Search.{largest_ext}
 use Rattle.rules.specs.Refusal.{code, number_of, values_of}
-use Rattle.rules.specs.declared.Outcome.TheVariants.{Accepted, Refused}
+use Rattle.std.specs.Prelude.{Ok, Err}
 use Rattle.rules.specs.declared.Refusal.{Refusal}
 use Rattle.loader_progress.specs.Progress.{ended}
 use Rattle.loader_runs.specs.Holds.{InRange}
@@ -25,9 +25,8 @@ use Rattle.file.specs.Read.{state_of, ReadAs}
 use Rattle.listing.specs.Listing.{problem_in}
 use Rattle.listing.specs.Complete.{Complete}
 use Rattle.listing.proofs.Entire.{from, inside}
-use Rattle.convert_spec.specs.declared.Converted.{Converted}
-use Rattle.convert_spec.specs.declared.Converted.TheVariants as converted
-use Rattle.convert_spec.specs.Converted.{some_tolerance, convert_answer, Delivered, ConvertedAs, ConvertedAt}
+use Rattle.convert_spec.specs.Converted.{Converted, some_tolerance, convert_answer, Delivered, ConvertedAs, ConvertedAt}
+use Rattle.convert_spec.specs.declared.ConversionRefusal.TheVariants.{Refused}
 use Rattle.convert_spec.specs.File.{old_file, new_file}
 use Rattle.convert_spec.specs.Numbers.{SameNumbers, SameTolerances}
 use Rattle.convert_spec.proofs.Limits.{held_numbers, held_tolerances}
@@ -36,7 +35,7 @@ use Rattle.convert_spec.proofs.Stated.{code_of_line, code_open, code_complete}
 use Rattle.convert_writer.specs.Written.{held_by}
 use Rattle.converter.specs.Held.{InRangeAtEnd, held_answer}
 
-module _ (file : List ℕ) {c : Collected} (read : ReadAs file c) (e : c.outcome ≡ Accepted) where
+module _ (file : List ℕ) {c : Collected} (read : ReadAs file c) (e : c.outcome ≡ Ok tt) where
   quiet : (reading_of file).code ≡ []
   quiet = sym read.says ∙ ap code e
 
@@ -85,11 +84,11 @@ module _ (file : List ℕ) {c : Collected} (read : ReadAs file c) (e : c.outcome
   pub file_delivered : {o p : List ℕ} {r : Converted} → Delivered (held_answer c (length o)) (old_file (held_by c)) o p r → ConvertedAt file o p (record { answer = r; line = 0 })
   file_delivered x = record { answer = delivered x; line = rw quiet }
 
-module _ (file : List ℕ) {c : Collected} (read : ReadAs file c) (x : Refusal) (e : c.outcome ≡ Refused x) where
+module _ (file : List ℕ) {c : Collected} (read : ReadAs file c) (x : Refusal) (e : c.outcome ≡ Err x) where
   spoken : (reading_of file).code ≡ number_of x ∷ values_of x
   spoken = sym read.says ∙ ap code e
 
-  pub file_refused : (o : List ℕ) → ConvertedAt file o o (record { answer = converted.Refused x; line = c.line })
+  pub file_refused : (o : List ℕ) → ConvertedAt file o o (record { answer = Err (Refused x); line = c.line })
   file_refused o =
       let s : convert_answer file (length o) ≡ number_of x ∷ values_of x = code_of_line file (length o) spoken in
       record { answer = rw s (record { says = refl; size = refl; bytes = refl }); line = rw spoken read.line }

@@ -14,9 +14,8 @@ use Rattle.linear.specs.Slice.{vector_of}
 use Rattle.linear.specs.Written.{written}
 use Rattle.linear.proofs.Written.{written_length, written_ext}
 use Rattle.rules.specs.Range.{short_matrix, short_column}
-use Rattle.rules.specs.Refusal.{code}
-use Rattle.rules.specs.declared.Outcome.{Outcome}
-use Rattle.rules.specs.declared.Outcome.TheVariants as outcome
+use Rattle.rules.specs.Refusal.{code, Outcome}
+use Rattle.std.specs.Prelude.{Ok, Err}
 use Rattle.rules.specs.declared.Refusal.{Refusal}
 use Rattle.rules.specs.declared.Refusal.TheVariants.{TooShort}
 use Rattle.rules.proofs.Ranges.{or_right}
@@ -28,7 +27,7 @@ use Rattle.check_spec.specs.Order.{answer}
 use Rattle.check_spec.proofs.Contract.{answer_short}
 use Rattle.check_spec.proofs.Fit.{Fit}
 use Rattle.check_spec.proofs.Written.{solution_written, inverse_written, accepted_fit, inverse_place, checked_fit, checked_solution}
-use Rattle.dependent_spec.specs.declared.CheckedNets.TheVariants.{Accepted, Main, Dependent}
+use Rattle.dependent_spec.specs.declared.NetsRefusal.TheVariants.{Main, Dependent}
 use Rattle.dependent_spec.specs.Nets.{Nets, dependent_by, dependent_of}
 use Rattle.dependent_spec.specs.Order.{dependent_answer}
 use Rattle.dependent_spec.specs.Checked.{DependentAs}
@@ -46,15 +45,15 @@ by_limits I e =
 
 module _ (J : Nets) where
   too_short : short J.main ≡ true →
-      CheckedTogether J (Main TooShort) J.main.solution_bounds J.main.inverse_bounds J.dependent.solution_bounds J.dependent.inverse_bounds
+      CheckedTogether J (Err (Main TooShort)) J.main.solution_bounds J.main.inverse_bounds J.dependent.solution_bounds J.dependent.inverse_bounds
   too_short e = together_main J TooShort (sym (answer_short J.main e))
 
   pub short_solution : length J.main.solution_bounds < 32 →
-      CheckedTogether J (Main TooShort) J.main.solution_bounds J.main.inverse_bounds J.dependent.solution_bounds J.dependent.inverse_bounds
+      CheckedTogether J (Err (Main TooShort)) J.main.solution_bounds J.main.inverse_bounds J.dependent.solution_bounds J.dependent.inverse_bounds
   short_solution h = too_short (by_limits J.main (rw (lt-ltb _ _ h)))
 
   pub short_inverse : length J.main.inverse_bounds < 1024 →
-      CheckedTogether J (Main TooShort) J.main.solution_bounds J.main.inverse_bounds J.dependent.solution_bounds J.dependent.inverse_bounds
+      CheckedTogether J (Err (Main TooShort)) J.main.solution_bounds J.main.inverse_bounds J.dependent.solution_bounds J.dependent.inverse_bounds
   short_inverse h = too_short (by_limits J.main (or_right (short_column (length J.main.solution_bounds)) (lt-ltb _ _ h)))
 
   -- the main net's input, with limit lists of its own
@@ -65,11 +64,11 @@ module _ (J : Nets) where
     code_main : code r ≡ answer J.main
     code_main = x.says ∙ lent_answer J.main (replicate 32 0) (replicate 1024 0) h g (lit≤ tt) (lit≤ tt)
 
-    pub main_refused : (y : Refusal) → r ≡ outcome.Refused y →
-        CheckedTogether J (Main y) J.main.solution_bounds J.main.inverse_bounds J.dependent.solution_bounds J.dependent.inverse_bounds
+    pub main_refused : (y : Refusal) → r ≡ Err y →
+        CheckedTogether J (Err (Main y)) J.main.solution_bounds J.main.inverse_bounds J.dependent.solution_bounds J.dependent.inverse_bounds
     main_refused y e = together_main J y (ap code (sym e) ∙ code_main)
 
-    module _ (e : r ≡ outcome.Accepted) where
+    module _ (e : r ≡ Ok tt) where
       main_accepted : answer J.main ≡ []
       main_accepted = sym code_main ∙ ap code e
 
@@ -106,13 +105,13 @@ module _ (J : Nets) where
         z : DependentAs (dependent_of J) q K M
         z = dependent_same J.main.n J.main.s (vector_of J.main.guess) (λ (j : ℕ). get_or E j 0) (bound (problem J.main)) J.coupling J.dependent limit_is y
 
-        pub dependent_refused : (w : Refusal) → q ≡ outcome.Refused w → CheckedTogether J (Dependent w) J.main.solution_bounds J.main.inverse_bounds K M
+        pub dependent_refused : (w : Refusal) → q ≡ Err w → CheckedTogether J (Err (Dependent w)) J.main.solution_bounds J.main.inverse_bounds K M
         dependent_refused w f =
-            let s : code (outcome.Refused w) ≡ dependent_answer (dependent_of J) = ap code (sym f) ∙ z.says in
+            let s : code (Err w) ≡ dependent_answer (dependent_of J) = ap code (sym f) ∙ z.says in
             rw (z.solution_bounds ∙ accepted_old _ _ (sym s), z.inverse_bounds ∙ accepted_old _ _ (sym s)) (together_dependent J w main_accepted s)
 
-        pub both_accepted : q ≡ outcome.Accepted → {A B : List ℕ} → A ≡ written J.main.solution_bounds 0 1 (λ (i : ℕ). get_or E i 0) J.main.n →
-            B ≡ written J.main.inverse_bounds 0 1 (λ (i : ℕ). get_or L i 0) (J.main.n * J.main.n) → CheckedTogether J Accepted A B K M
+        pub both_accepted : q ≡ Ok tt → {A B : List ℕ} → A ≡ written J.main.solution_bounds 0 1 (λ (i : ℕ). get_or E i 0) J.main.n →
+            B ≡ written J.main.inverse_bounds 0 1 (λ (i : ℕ). get_or L i 0) (J.main.n * J.main.n) → CheckedTogether J (Ok tt) A B K M
         both_accepted f {A} {B} a b =
             let s : dependent_answer (dependent_of J) ≡ [] = sym z.says ∙ ap code f in
             together_accepted J main_accepted s

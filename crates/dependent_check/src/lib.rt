@@ -8,11 +8,12 @@ ghost use Rattle.dependent_spec.specs.Together.{CheckedTogether};
 use check_held::check_held;
 use dependent_coupling::copy_limits;
 use dependent_net::check_dependent_net;
-use dependent_spec::CheckedNets;
-use rules::{COLUMN_LENGTH, MATRIX_LENGTH, Outcome, Refusal};
+use dependent_spec::NetsRefusal;
+use rules::{COLUMN_LENGTH, MATRIX_LENGTH, Refusal};
 
 // The main net first: 8, 3, 5, 6, 7; then the dependent net in the same order. The main net's limits are held until both are accepted, so that a refusal of
 // either leaves all four limit lists as they were.
+// The lists stand one by one and in the order of the C call (docs/API.md).
 pub fn check_dependent(
     n1: u32,
     s1: u32,
@@ -37,7 +38,7 @@ pub fn check_dependent(
     weights2: &[i64],
     solution_bounds2: &mut [u64],
     inverse_bounds2: &mut [u64],
-) -> CheckedNets
+) -> Result<(), NetsRefusal>
     ensures { CheckedTogether (nets
         (input n1 s1 t1 matrix1.now right1.now tolerance1.now guess1.now inverse1.now
         weights1.now solution_bounds1.old inverse_bounds1.old)
@@ -46,48 +47,35 @@ pub fn check_dependent(
         coupling.now)
         result solution_bounds1.new inverse_bounds1.new solution_bounds2.new inverse_bounds2.new }
 {
-    if solution_bounds1.len() < COLUMN_LENGTH {
-        return CheckedNets::Main(Refusal::TooShort);
+    if solution_bounds1.len() < COLUMN_LENGTH || inverse_bounds1.len() < MATRIX_LENGTH {
+        return Err(NetsRefusal::Main(Refusal::TooShort));
     }
-    if inverse_bounds1.len() < MATRIX_LENGTH {
-        return CheckedNets::Main(Refusal::TooShort);
-    }
-    let held = check_held(
+    let main = check_held(
         n1, s1, t1, matrix1, right1, tolerance1, guess1, inverse1, weights1,
     );
-    let main = held.outcome;
-    match main {
-        Outcome::Refused(refusal) => CheckedNets::Main(refusal),
-        Outcome::Accepted => {
-            let marks = n1 as usize;
-            let limits = held.solution;
-            let own = check_dependent_net(
-                marks,
-                s1,
-                guess1,
-                limits,
-                n2,
-                s2,
-                t2,
-                matrix2,
-                coupling,
-                right2,
-                tolerance2,
-                guess2,
-                inverse2,
-                weights2,
-                solution_bounds2,
-                inverse_bounds2,
-            );
-            match own {
-                Outcome::Refused(refusal) => CheckedNets::Dependent(refusal),
-                Outcome::Accepted => {
-                    let inverse_limits = held.inverse;
-                    copy_limits(solution_bounds1, &limits, marks);
-                    copy_limits(inverse_bounds1, &inverse_limits, marks * marks);
-                    CheckedNets::Accepted
-                }
-            }
-        }
-    }
+    main.outcome.map_err(NetsRefusal::Main)?;
+    let marks = n1 as usize;
+    let limits = main.solution;
+    check_dependent_net(
+        marks,
+        s1,
+        guess1,
+        limits,
+        n2,
+        s2,
+        t2,
+        matrix2,
+        coupling,
+        right2,
+        tolerance2,
+        guess2,
+        inverse2,
+        weights2,
+        solution_bounds2,
+        inverse_bounds2,
+    )
+    .map_err(NetsRefusal::Dependent)?;
+    copy_limits(solution_bounds1, &limits, marks);
+    copy_limits(inverse_bounds1, &main.inverse, marks * marks);
+    Ok(())
 }

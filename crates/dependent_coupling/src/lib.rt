@@ -2,7 +2,8 @@
 // row, with as many numbers in a row as the main net has marks.
 #![tactic(auto)]
 
-ghost use Rattle.std.specs.Prelude.{◌≡◌, ℕ, ◌+◌, ◌*◌, ◌≤◌, ◌<◌, ◌^◌, min, pos, nat_abs, ◌-ℤ◌, get_or, length};
+ghost use Rattle.std.specs.Prelude.{◌≡◌, ℕ, ◌+◌, ◌*◌, ◌≤◌, ◌<◌, ◌^◌, ℤ, pos, nat_abs, ◌-ℤ◌, get_or, length, sum_by, All};
+ghost use Rattle.std.specs.List.{zip};
 ghost use Rattle.linear.specs.Matrix.{apply};
 ghost use Rattle.linear.specs.Slice.{at, vector_of, matrix_of};
 ghost use Rattle.linear.specs.Place.{Carried};
@@ -10,9 +11,8 @@ ghost use Rattle.linear.specs.Reach.{ColumnList, Reach};
 ghost use Rattle.linear.specs.Written.{written};
 ghost use Rattle.check_arrays.specs.Arrays.{PrefixIs};
 ghost use Rattle.check_arrays.specs.Parts.{residual_from};
-ghost use Rattle.dependent_coupling.specs.Carried.{limit_cap, capped_sum};
+ghost use Rattle.dependent_coupling.specs.Carried.{capped_term, capped_sum};
 
-use integer::magnitude;
 use linear::dot;
 
 // For how much a limit counts at most in a slack: one more than a residual and its slack may be together.
@@ -29,7 +29,7 @@ fn base_at(base: i64, coupling: &[i64], k: usize, row: usize, guess: &[i64], mar
     base - dot(coupling, row, 1, guess, 0, 1, marks)
 }
 
-// The base of the residuals: S·b2 less C·X1.
+// The base of the residuals: S·b2 less C·X1. Here and in `slacks_with` the start of a row is carried: `chunks` takes no rows of 0 numbers.
 pub fn base_of(
     base: [i64; 32],
     coupling: &[i64],
@@ -45,28 +45,23 @@ pub fn base_of(
 {
     let mut out = [0i64; 32];
     let mut row = 0;
-    for k in 0..n {
-        out[k] = base_at(base[k], coupling, k, row, guess, marks);
+    for (k, &b) in base[..n].iter().enumerate() {
+        out[k] = base_at(b, coupling, k, row, guess, marks);
         row += marks;
     }
     out
 }
 
-// A limit, at most 2^25 + 1.
-fn capped(limit: u64) -> u64
-    ensures { result ≡ min limit limit_cap }
+// The sum of |c|·E along a row of C, each limit at most LIMIT_CAP.
+fn carried_along(row: &[i64], limits: &[u64]) -> u64
+    requires small { All (λ (c : ℤ). nat_abs c ≤ 2 ^ 20) row.now }
+    requires fits { sum_by capped_term (zip row.now limits.now) < 2 ^ 64 }
+    ensures { result ≡ sum_by capped_term (zip row.now limits.now) }
 {
-    if limit < LIMIT_CAP { limit } else { LIMIT_CAP }
-}
-
-// Term j of a slack: sum + |c|·limit, where c is number j of the row of C that starts at place row, by way of the place that was carried to it.
-fn add_carried(sum: u64, coupling: &[i64], row: usize, place: usize, limit: u64, j: usize) -> u64
-    requires carried { Carried row 1 j place }
-    requires j_in_bounds { (row + j < length coupling.now) × (nat_abs (at coupling.now (row + j)) ≤ 2 ^ 20) }
-    requires sum_bound { sum ≤ 2 ^ 62 }
-    ensures { result ≡ sum + nat_abs (at coupling.now (row + j)) * min limit limit_cap }
-{
-    sum + magnitude(coupling[place]) * capped(limit)
+    row.iter()
+        .zip(limits)
+        .map(|(c, limit)| c.unsigned_abs() * (*limit).min(LIMIT_CAP))
+        .sum()
 }
 
 // The sum of |C_kj|·E_j along row k, which starts at index row.
@@ -76,13 +71,7 @@ fn carried_at(coupling: &[i64], k: usize, row: usize, limits: &[u64; 32], marks:
     requires reach { Reach coupling.now (k * marks) 1 marks (2 ^ 20) }
     ensures { result ≡ capped_sum marks coupling.now limits.now k }
 {
-    let mut sum: u64 = 0;
-    let mut place = row;
-    for j in 0..marks {
-        sum = add_carried(sum, coupling, row, place, limits[j], j);
-        place += 1;
-    }
-    sum
+    carried_along(&coupling[row..row + marks], limits)
 }
 
 // The slacks: |C|·E1 and S·d2.
@@ -100,8 +89,8 @@ pub fn slacks_with(
 {
     let mut out = [0u64; 32];
     let mut row = 0;
-    for k in 0..n {
-        out[k] = carried_at(coupling, k, row, &limits, marks) + slacks[k];
+    for (k, &slack) in slacks[..n].iter().enumerate() {
+        out[k] = carried_at(coupling, k, row, &limits, marks) + slack;
         row += marks;
     }
     out
@@ -112,7 +101,5 @@ pub fn copy_limits(dst: &mut [u64], src: &[u64], n: usize)
     requires { (n ≤ length src.now) × (n ≤ length dst.old) }
     ensures { dst.new ≡ written dst.old 0 1 (λ (i : ℕ). get_or src.now i 0) n }
 {
-    for i in 0..n {
-        dst[i] = src[i];
-    }
+    dst[..n].copy_from_slice(&src[..n]);
 }

@@ -23,7 +23,7 @@ use Rattle.linear.proofs.Written.{written_ext}
 use Rattle.rules.specs.Order.{if_accepted}
 use Rattle.rules.specs.Range.{all_in_range}
 use Rattle.rules.specs.declared.Kind.TheVariants as kind
-use Rattle.rules.specs.declared.Outcome.{Outcome}
+use Rattle.rules.specs.Refusal.{Outcome}
 use Rattle.rules.proofs.AllInRange.{all_at}
 use Rattle.rules.proofs.Ranges.{both_right, matrix_range, neither_left}
 use Rattle.enclosure.specs.Reckoning.{margin, load, defect, residual, slack, allowed_residual, row_sum, exceeds, magnitudes_with, bound_with, bound}

@@ -13,10 +13,11 @@ use check_lists::compute_bounds;
 use check_ranges::{are_lists_in_range, are_sizes_in_range, is_short};
 use check_residuals::scaled_right;
 use dependent_coupling::{base_of, slacks_with};
-use rules::{Kind, MATRIX_LENGTH, Outcome, Refusal, all_in_range};
+use rules::{Kind, MATRIX_LENGTH, Refusal, all_in_range};
 
 // The check of a dependent net, from n, s, the guess and the limits of the main net. Order 8, 3, 5, 6, 7; a refusal leaves both limit lists as they were. The sums
 // along the rows are not asked of its heights.
+// The lists stand one by one and in the order of the C call (docs/API.md).
 pub fn check_dependent_net(
     marks: usize,
     main_scale: u32,
@@ -34,7 +35,7 @@ pub fn check_dependent_net(
     weights: &[i64],
     solution_bounds: &mut [u64],
     inverse_bounds: &mut [u64],
-) -> Outcome
+) -> Result<(), Refusal>
     requires marks_bound { marks ≤ 32 }
     requires column_list { ColumnList main_guess.now marks (2 ^ 36) }
     ensures { DependentAs (dependent_by marks main_scale (vector_of main_guess.now) (λ (j : ℕ). get_or main_limits j 0)
@@ -42,55 +43,52 @@ pub fn check_dependent_net(
         inverse.now weights.now solution_bounds.old inverse_bounds.old))
         result solution_bounds.new inverse_bounds.new }
 {
-    if coupling.len() < MATRIX_LENGTH {
-        return Outcome::Refused(Refusal::TooShort);
+    if coupling.len() < MATRIX_LENGTH
+        || is_short(
+            matrix.len(),
+            right.len(),
+            tolerance.len(),
+            guess.len(),
+            inverse.len(),
+            weights.len(),
+            solution_bounds.len(),
+            inverse_bounds.len(),
+        )
+    {
+        return Err(Refusal::TooShort);
     }
-    if is_short(
-        matrix.len(),
-        right.len(),
-        tolerance.len(),
-        guess.len(),
-        inverse.len(),
-        weights.len(),
-        solution_bounds.len(),
-        inverse_bounds.len(),
-    ) {
-        return Outcome::Refused(Refusal::TooShort);
+    let size = n as usize;
+    if !are_sizes_in_range(n, s, t)
+        || !are_lists_in_range(size, matrix, right, tolerance, guess, inverse, weights)
+        || s != main_scale
+        || !all_in_range(Kind::Matrix, coupling, size * marks)
+    {
+        return Err(Refusal::OutOfRange);
     }
-    if are_sizes_in_range(n, s, t) {
-        let size = n as usize;
-        if are_lists_in_range(size, matrix, right, tolerance, guess, inverse, weights) {
-            if s == main_scale {
-                if all_in_range(Kind::Matrix, coupling, size * marks) {
-                    let mut scaled = [0i64; 32];
-                    scaled_right(&mut scaled, s, right, size);
-                    let base = base_of(scaled, coupling, main_guess, marks, size);
-                    let mut tolerances = [0u64; 32];
-                    slacks_of(&mut tolerances, s, tolerance, size);
-                    let slacks = slacks_with(tolerances, coupling, main_limits, marks, size);
-                    let mut sums = [0u64; 32];
-                    row_sums_of(&mut sums, matrix, size);
-                    let mut allowed = [0i64; 32];
-                    allowed_of(&mut allowed, &slacks, &[ALLOWED_RESIDUAL; 32], size);
-                    let mut allowed_in_columns = [0i64; 32];
-                    allowed_of(&mut allowed_in_columns, &[0u64; 32], &sums, size);
-                    return compute_bounds(
-                        size,
-                        t,
-                        matrix,
-                        &base,
-                        &allowed,
-                        &allowed_in_columns,
-                        &slacks,
-                        guess,
-                        inverse,
-                        weights,
-                        solution_bounds,
-                        inverse_bounds,
-                    );
-                }
-            }
-        }
-    }
-    Outcome::Refused(Refusal::OutOfRange)
+    let mut scaled = [0i64; 32];
+    scaled_right(&mut scaled, s, right, size);
+    let base = base_of(scaled, coupling, main_guess, marks, size);
+    let mut tolerances = [0u64; 32];
+    slacks_of(&mut tolerances, s, tolerance, size);
+    let slacks = slacks_with(tolerances, coupling, main_limits, marks, size);
+    let mut sums = [0u64; 32];
+    row_sums_of(&mut sums, matrix, size);
+    let mut allowed = [0i64; 32];
+    allowed_of(&mut allowed, &slacks, &[ALLOWED_RESIDUAL; 32], size);
+    let mut allowed_in_columns = [0i64; 32];
+    allowed_of(&mut allowed_in_columns, &[0u64; 32], &sums, size);
+    compute_bounds(
+        size,
+        t,
+        matrix,
+        &base,
+        &allowed,
+        &allowed_in_columns,
+        &slacks,
+        guess,
+        inverse,
+        weights,
+        solution_bounds,
+        inverse_bounds,
+    )
 }

@@ -7,8 +7,7 @@ use Prim.Native.Nat.{ℕ}
 use lib.ListN.{length, get_or}
 use lib.Ieee.{Float}
 use Rattle.rules.specs.Range.{short_matrix}
-use Rattle.rules.specs.Refusal.{code}
-use Rattle.rules.specs.declared.Outcome.{Outcome}
+use Rattle.rules.specs.Refusal.{code, Outcome}
 use Rattle.rules.proofs.Ranges.{both_left, neither_right}
 use Rattle.rules.proofs.Verdicts.{accepted_new}
 use Rattle.linear.specs.Matrix.{Vec}
@@ -22,10 +21,9 @@ use Rattle.doubles_lists.specs.Hands.{Hands}
 use Rattle.doubles_lists.specs.Outward.{IntervalsOf}
 use Rattle.doubles_lists.proofs.Enclosed.{limits_between, encloses_between}
 use Rattle.doubles_lists.proofs.Taken.{written_taken}
-use Rattle.dependent_spec.specs.declared.CheckedNets.{CheckedNets}
+use Rattle.dependent_spec.specs.Order.{CheckedNets, nets_code, joint_answer}
 use Rattle.dependent_spec.specs.Nets.{Nets, dependent_of}
 use Rattle.dependent_spec.specs.Reckoning.{dependent_bound}
-use Rattle.dependent_spec.specs.Order.{nets_code, joint_answer}
 use Rattle.dependent_spec.specs.Joint.{main_problem, dependent_problem, WithinBoth}
 use Rattle.dependent_spec.specs.Together.{CheckedTogether}
 use Rattle.dependent_spec.proofs.Largest.{joint_none, dependent_magnitude}

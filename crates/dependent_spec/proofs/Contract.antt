@@ -11,7 +11,7 @@ use Rattle.linear.specs.Written.{written}
 use Rattle.linear.proofs.Places.{place, square, place_column, place_row}
 use Rattle.linear.proofs.Written.{front_at}
 use Rattle.rules.specs.Refusal.{code, number_of, values_of}
-use Rattle.rules.specs.declared.Outcome.TheVariants as outcome
+use Rattle.std.specs.Prelude.{Err, Ok}
 use Rattle.rules.specs.declared.Refusal.{Refusal}
 use Rattle.rules.proofs.Ranges.{both_left, both_right}
 use Rattle.rules.proofs.Verdicts.{accepted_new, accepted_old, nothing_is_not}
@@ -22,7 +22,7 @@ use Rattle.check_spec.specs.Stated.{Usable}
 use Rattle.check_spec.proofs.Contract.{answer_ready, code_sound, written_encloses}
 use Rattle.check_spec.proofs.Fit.{Fit, fit_of}
 use Rattle.check_spec.proofs.Statements.{accepted_usable}
-use Rattle.dependent_spec.specs.declared.CheckedNets.TheVariants.{Accepted, Main, Dependent}
+use Rattle.dependent_spec.specs.declared.NetsRefusal.TheVariants.{Main, Dependent}
 use Rattle.dependent_spec.specs.Nets.{Nets, dependent_of}
 use Rattle.dependent_spec.specs.Reckoning.{dependent_bound}
 use Rattle.dependent_spec.specs.Order.{dependent_answer, joint_answer}
@@ -31,8 +31,8 @@ use Rattle.dependent_spec.proofs.Joint.{encloses_both, encloses_both_as}
 use Rattle.dependent_spec.proofs.Statements.{own_fit, Passed, passed_of, joint_main, joint_dependent, joint_accepted}
 
 module _ (J : Nets) where
-  pub together_main : (x : Refusal) → code (outcome.Refused x) ≡ answer J.main →
-      CheckedTogether J (Main x) J.main.solution_bounds J.main.inverse_bounds J.dependent.solution_bounds J.dependent.inverse_bounds
+  pub together_main : (x : Refusal) → code (Err x) ≡ answer J.main →
+      CheckedTogether J (Err (Main x)) J.main.solution_bounds J.main.inverse_bounds J.dependent.solution_bounds J.dependent.inverse_bounds
   together_main x e =
       let j : joint_answer J ≡ 1 ∷ number_of x ∷ values_of x = joint_main J (sym e) in
       record {
@@ -44,8 +44,8 @@ module _ (J : Nets) where
         encloses = λ n. absurd (nothing_is_not n);
       }
 
-  pub together_dependent : (x : Refusal) → answer J.main ≡ [] → code (outcome.Refused x) ≡ dependent_answer (dependent_of J) →
-      CheckedTogether J (Dependent x) J.main.solution_bounds J.main.inverse_bounds J.dependent.solution_bounds J.dependent.inverse_bounds
+  pub together_dependent : (x : Refusal) → answer J.main ≡ [] → code (Err x) ≡ dependent_answer (dependent_of J) →
+      CheckedTogether J (Err (Dependent x)) J.main.solution_bounds J.main.inverse_bounds J.dependent.solution_bounds J.dependent.inverse_bounds
   together_dependent x e f =
       let j : joint_answer J ≡ 2 ∷ number_of x ∷ values_of x = joint_dependent J e (sym f) in
       record {
@@ -79,7 +79,7 @@ module _ (J : Nets) where
         L₁ ≡ written J.main.inverse_bounds 0 1 (λ (k : ℕ). inverse_bound (problem J.main) (k / J.main.n) (k % J.main.n)) (J.main.n * J.main.n) →
         E₂ ≡ written J.dependent.solution_bounds 0 1 (dependent_bound (dependent_of J)) J.dependent.n →
         L₂ ≡ written J.dependent.inverse_bounds 0 1 (λ (k : ℕ). inverse_bound (problem J.dependent) (k / J.dependent.n) (k % J.dependent.n)) (J.dependent.n * J.dependent.n) →
-        CheckedTogether J Accepted E₁ L₁ E₂ L₂
+        CheckedTogether J (Ok tt) E₁ L₁ E₂ L₂
     together_accepted {E₁} {L₁} {E₂} {L₂} h₁ g₁ h₂ g₂ =
         let j : joint_answer J ≡ [] = joint_accepted J e f in
         let n : ℕ = J.dependent.n in

@@ -10,7 +10,7 @@ use Rattle.integer.proofs.Sum.{sumℕ_ext}
 use Rattle.linear.specs.Matrix.{Vec}
 use Rattle.linear.proofs.Slack.{slack_ext}
 use Rattle.linear.proofs.Written.{written_ext}
-use Rattle.rules.specs.declared.Outcome.{Outcome}
+use Rattle.rules.specs.Refusal.{Outcome}
 use Rattle.enclosure.specs.Reckoning.{slack, magnitudes_with, bound_with}
 use Rattle.enclosure.proofs.Bounds.{bound_ext}
 use Rattle.check_spec.specs.Input.{Input}

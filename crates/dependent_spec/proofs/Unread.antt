@@ -1,12 +1,11 @@
 -- The rest of each list is neither read nor written by a call of the check of two nets (specs/Agree).
 --   same_together — two calls that agree on the places used say the same, and where nothing is said write the same
 --   rest_kept     — what stands past these places in the four limit lists is as before, whatever is said
-use mathlib.Core.Path.{◌≡◌, sym, ap, ◌∙◌, subst}
+use mathlib.Core.Path.{◌≡◌, sym, ◌∙◌, subst}
 use mathlib.Core.List.{List, []}
 use Prim.Native.Nat.{ℕ, ◌*◌, ◌/◌, ◌%◌, ◌<◌}
 use native.Mathlib.Omega.{arith}
 use native.Mathlib.Nat.{mod-lt, div-lt_iff_lt-mul}
-use lib.ListN.{get_or}
 use Rattle.linear.specs.Written.{written}
 use Rattle.linear.proofs.Places.{square}
 use Rattle.linear.proofs.Written.{same_written}
@@ -20,10 +19,9 @@ use Rattle.check_spec.proofs.Fit.{Fit, fit_of}
 use Rattle.check_spec.proofs.Lengths.{long_of}
 use Rattle.check_spec.proofs.Statements.{accepted_usable}
 use Rattle.check_spec.proofs.Written.{past_kept}
-use Rattle.dependent_spec.specs.declared.CheckedNets.{CheckedNets}
+use Rattle.dependent_spec.specs.Order.{CheckedNets, joint_answer, nets_code}
 use Rattle.dependent_spec.specs.Nets.{Nets, dependent_of}
 use Rattle.dependent_spec.specs.Reckoning.{dependent_bound}
-use Rattle.dependent_spec.specs.Order.{joint_answer, nets_code}
 use Rattle.dependent_spec.specs.Together.{CheckedTogether}
 use Rattle.dependent_spec.specs.Agree.{AgreeingNets, SameTogether, SameRest, RestKept}
 use Rattle.dependent_spec.proofs.Same.{K', K'_is, joint_alike, bound_alike}

@@ -6,9 +6,8 @@ use Rattle.std.specs.Prelude.{false, List, [], ◌≡◌, ℕ, ◌*◌, ◌≤�
 use Rattle.linear.specs.Slice.{at}
 use Rattle.rules.specs.Range.{short_matrix}
 use Rattle.check_spec.specs.Agree.{Agree}
-use Rattle.dependent_spec.specs.declared.CheckedNets.{CheckedNets}
+use Rattle.dependent_spec.specs.Order.{CheckedNets, nets_code}
 use Rattle.dependent_spec.specs.Nets.{Nets}
-use Rattle.dependent_spec.specs.Order.{nets_code}
 
 pub record AgreeingNets (J K : Nets) : Type 0 where
   pub main : Agree J.main K.main

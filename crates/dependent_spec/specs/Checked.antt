@@ -1,8 +1,7 @@
 -- What the check of the dependent net by itself says and leaves, once the main net is accepted; cited by the contract of `check_dependent_net` alone.
 --   DependentAs D r E L — what is said, and its two limit lists
 use Rattle.std.specs.Prelude.{List, ◌≡◌, ℕ}
-use Rattle.rules.specs.Refusal.{code}
-use Rattle.rules.specs.declared.Outcome.{Outcome}
+use Rattle.rules.specs.Refusal.{code, Outcome}
 use Rattle.check_spec.specs.Checked.{inverse_after}
 use Rattle.dependent_spec.specs.Nets.{DependentNet}
 use Rattle.dependent_spec.specs.Order.{dependent_answer}

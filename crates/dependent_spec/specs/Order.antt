@@ -6,8 +6,9 @@
 --   dependent_tests D — 5, 6 and 7 at the first place of each;  dependent_computed D — what is said of these
 --   dependent_answer D — what is said of the dependent net: 8, 3, 5, 6, 7
 --   joint_answer J — what is said of both: of the main net what its check says, and of the other where the main net is accepted
+--   CheckedNets   — the answer: nothing beside it where both nets are accepted, or a refusal
 --   nets_code r   — what an answer says: nothing where both nets are accepted, else the net, 1 or 2, the number of the refusal and its values
-use Rattle.std.specs.Prelude.{Bool, not, ◌&&◌, ◌||◌, List, [], ◌∷◌, ℕ, ◌*◌, eqb, length}
+use Rattle.std.specs.Prelude.{Bool, not, ◌&&◌, ◌||◌, List, [], ◌∷◌, ℕ, ◌*◌, eqb, length, Result, Ok, Err, ⊤}
 use Rattle.integer.specs.Finite.{first}
 use Rattle.linear.specs.Slice.{at}
 use Rattle.rules.specs.Order.{Test, number, verdict}
@@ -17,8 +18,8 @@ use Rattle.rules.specs.Refusal.{number_of, values_of}
 use Rattle.rules.specs.declared.Kind.TheVariants as kind
 use Rattle.check_spec.specs.Input.{short, in_ranges}
 use Rattle.check_spec.specs.Order.{first_margin, first_inverse_place, computed, answer}
-use Rattle.dependent_spec.specs.declared.CheckedNets.{CheckedNets}
-use Rattle.dependent_spec.specs.declared.CheckedNets.TheVariants.{Accepted, Main, Dependent}
+use Rattle.dependent_spec.specs.declared.NetsRefusal.{NetsRefusal}
+use Rattle.dependent_spec.specs.declared.NetsRefusal.TheVariants.{Main, Dependent}
 use Rattle.dependent_spec.specs.Nets.{Nets, DependentNet, dependent_of}
 use Rattle.dependent_spec.specs.Reckoning.{own_problem, dependent_exceeds}
 
@@ -44,7 +45,10 @@ dependent_answer D = verdict (number 8 (dependent_short D) ∷ number 3 (not (de
 unfoldable pub joint_answer : Nets → List ℕ
 joint_answer J = verdict (of_one 1 (answer J.main) ∷ of_one 2 (dependent_answer (dependent_of J)) ∷ [])
 
+abbrev pub CheckedNets : Type 0
+CheckedNets = Result ⊤ NetsRefusal
+
 abbrev pub nets_code : CheckedNets → List ℕ
-nets_code Accepted = []
-nets_code (Main r) = 1 ∷ number_of r ∷ values_of r
-nets_code (Dependent r) = 2 ∷ number_of r ∷ values_of r
+nets_code (Ok tt) = []
+nets_code (Err (Main r)) = 1 ∷ number_of r ∷ values_of r
+nets_code (Err (Dependent r)) = 2 ∷ number_of r ∷ values_of r

@@ -6,10 +6,9 @@ use Rattle.std.specs.Prelude.{List, [], ◌≡◌, ℕ, ◌+◌, ◌*◌, get_or
 use Rattle.linear.specs.Written.{written}
 use Rattle.rules.specs.Order.{if_accepted}
 use Rattle.check_spec.specs.Checked.{solution_after, inverse_after}
-use Rattle.dependent_spec.specs.declared.CheckedNets.{CheckedNets}
+use Rattle.dependent_spec.specs.Order.{CheckedNets, joint_answer, nets_code}
 use Rattle.dependent_spec.specs.Nets.{Nets, DependentNet, dependent_of}
 use Rattle.dependent_spec.specs.Reckoning.{dependent_bound}
-use Rattle.dependent_spec.specs.Order.{joint_answer, nets_code}
 use Rattle.dependent_spec.specs.Joint.{EnclosesBoth}
 
 abbrev pub dependent_solution_after : List ℕ → DependentNet → List ℕ

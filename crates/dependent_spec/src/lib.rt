@@ -4,10 +4,9 @@
 
 use rules::Refusal;
 
+// Which of the two nets is refused, and why.
 #[derive(Clone, Copy)]
-pub enum CheckedNets {
-    // both nets are accepted
-    Accepted,
+pub enum NetsRefusal {
     // the main net is refused: 8, 3, 5, 6 or 7
     Main(Refusal),
     // the main net is accepted, and the dependent net is refused: 8, 3, 5, 6 or 7

@@ -2,51 +2,49 @@
 --   none_outside — a double that is not finite gives no guess
 --   magnitude_small — a magnitude that is found is at most 2^36
 --   none_large, given — no guess where the magnitude is not found, else the magnitude with its sign
-use mathlib.Core.Path.{◌≡◌, sym, ap, ◌∙◌, subst}
-use mathlib.Core.Bool.{Bool, true, false, ◌&&◌}
+use mathlib.Core.Path.{◌≡◌, sym, ap, ◌∙◌}
+use mathlib.Core.Bool.{Bool, ◌&&◌}
 use Prim.Native.Nat.{ℕ, ◌≤◌, ◌^◌}
 use borrow.Author.Tests.{leb-true}
-use lib.Dec.{T}
-use lib.IntN.{ℤ, pos}
+use lib.Dec.{leb}
+use lib.IntN.{ℤ}
 use lib.Ieee.{Float}
-use lib.Ieee.Scale.{finite}
+use Rattle.std.proofs.Common.{Some, None}
 use Rattle.rules.specs.Range.{in_range}
 use Rattle.rules.specs.declared.Kind.TheVariants as kind
 use Rattle.doubles_guess.specs.Units.{signed_by}
 use Rattle.doubles_guess.specs.Decoded.{Decoded}
 use Rattle.doubles_guess.specs.Guess.{has_guess, guess_for, magnitude_for, MagnitudeFoundAs, GuessFoundAs}
 use Rattle.doubles_guess.specs.declared.DoubleParts.{DoubleParts}
-use Rattle.doubles_guess.specs.declared.FoundMagnitude.{FoundMagnitude}
 use Rattle.doubles_guess.proofs.Steps.{guess_signed, guess_in}
 
-never_found : (s : ℕ) (x : Float) → has_guess s x ≡ false → GuessFoundAs s x (record { found = false; steps = pos 0 })
-never_found s x e = record { found = sym e; steps = λ h. absurd (subst T (sym h ∙ e) tt) }
-
-module _ (s : ℕ) (x : Float) (p : DoubleParts) (d : Decoded x p) where
-  pub none_outside : p.finite ≡ false → GuessFoundAs s x (record { found = false; steps = pos 0 })
+module _ (s : ℕ) (x : Float) where
+  pub none_outside : Decoded x None → GuessFoundAs s x None
   unfolding has_guess
-  none_outside e = never_found s x (ap (λ (b : Bool). b && in_range kind.Guess (guess_for s x)) (sym d.tells ∙ e))
+  none_outside d = record { found = ap (λ (b : Bool). b && in_range kind.Guess (guess_for s x)) d.tells; steps = tt }
 
-  module _ (f : p.finite ≡ true) (z : FoundMagnitude) (h : MagnitudeFoundAs p.digits p.shift s z) where
-    guess_is : guess_for s x ≡ signed_by p.negative (magnitude_for p.digits p.shift s)
-    guess_is = guess_signed x p.negative p.digits p.shift s (d.value f)
+  module _ (p : DoubleParts) (d : Decoded x (Some p)) where
+    abbrev magnitude : ℕ
+    magnitude = magnitude_for p.digits p.shift s
 
-    found_is : has_guess s x ≡ z.found
+    guess_is : guess_for s x ≡ signed_by p.negative magnitude
+    guess_is = guess_signed x p.negative p.digits p.shift s d.parts.value
+
+    found_is : has_guess s x ≡ leb magnitude (2 ^ 36)
     unfolding has_guess
     found_is =
-        ap (λ (b : Bool). b && in_range kind.Guess (guess_for s x)) (sym d.tells ∙ f)
+        ap (λ (b : Bool). b && in_range kind.Guess (guess_for s x)) (sym d.tells)
         ∙ ap (in_range kind.Guess) guess_is
-        ∙ guess_in p.negative (magnitude_for p.digits p.shift s)
-        ∙ sym h.found
+        ∙ guess_in p.negative magnitude
 
-    pub magnitude_small : z.found ≡ true → z.steps ≤ 2 ^ 36
-    magnitude_small e = rw (h.steps e) (leb-true (magnitude_for p.digits p.shift s) (2 ^ 36) (sym h.found ∙ e))
+    pub magnitude_small : {m : ℕ} → MagnitudeFoundAs p.digits p.shift s (Some m) → m ≤ 2 ^ 36
+    magnitude_small h = rw h.steps (leb-true magnitude (2 ^ 36) (sym h.found))
 
-    pub none_large : z.found ≡ false → GuessFoundAs s x (record { found = false; steps = pos 0 })
-    none_large e = never_found s x (found_is ∙ e)
+    pub none_large : MagnitudeFoundAs p.digits p.shift s None → GuessFoundAs s x None
+    none_large h = record { found = h.found ∙ sym found_is; steps = tt }
 
-    pub given : {v : ℤ} → z.found ≡ true → v ≡ signed_by p.negative z.steps → GuessFoundAs s x (record { found = true; steps = v })
-    given e q = record {
-      found = sym (found_is ∙ e);
-      steps = λ _. q ∙ ap (signed_by p.negative) (h.steps e) ∙ sym guess_is;
+    pub given : {m : ℕ} {v : ℤ} → MagnitudeFoundAs p.digits p.shift s (Some m) → v ≡ signed_by p.negative m → GuessFoundAs s x (Some v)
+    given h q = record {
+      found = h.found ∙ sym found_is;
+      steps = q ∙ ap (signed_by p.negative) h.steps ∙ sym guess_is;
     }

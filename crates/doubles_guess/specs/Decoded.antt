@@ -1,7 +1,8 @@
 -- A double taken apart; cited by contracts inside the chain.
 --   Normal q k    — q has 53 digits, or at most that many where k is 0
---   Decoded x p   — p says whether x is finite, and then x is ±digits · 2^shift units
-use Rattle.std.specs.Prelude.{true, ◌≡◌, ℕ, ◌*◌, ◌^◌, ◌≤◌, ◌<◌, Float}
+--   PartsOf x p   — x is ±digits · 2^shift units
+--   Decoded x r   — r says whether x is finite, and then holds its parts
+use Rattle.std.specs.Prelude.{Option, IfSome, is_some, ◌≡◌, ℕ, ◌*◌, ◌^◌, ◌≤◌, ◌<◌, Float}
 use Rattle.std.specs.Float.Ieee.Exact.{HasValue}
 use Rattle.std.specs.Float.Ieee.Scale as Scale
 use Rattle.doubles_guess.specs.declared.DoubleParts.{DoubleParts}
@@ -11,7 +12,10 @@ pub record Normal (q k : ℕ) : Type 0 where
   pub low : k ≤ 2045
   pub full : (k ≡ 0 → ⊥) → 2 ^ 52 ≤ q
 
-pub record Decoded (x : Float) (p : DoubleParts) : Type 0 where
-  pub tells : p.finite ≡ Scale.finite x
-  pub value : p.finite ≡ true → HasValue x p.negative (p.digits * 2 ^ p.shift) (2 ^ 1074)
+pub record PartsOf (x : Float) (p : DoubleParts) : Type 0 where
+  pub value : HasValue x p.negative (p.digits * 2 ^ p.shift) (2 ^ 1074)
   pub normal : Normal p.digits p.shift
+
+pub record Decoded (x : Float) (r : Option DoubleParts) : Type 0 where
+  pub tells : is_some r ≡ Scale.finite x
+  pub parts : IfSome r (PartsOf x)

@@ -1,7 +1,8 @@
 -- The ends of z steps, by the sign of z.
---   below_zero, below_some — the double below, as the code makes it, where z is 0 and where not;  above_zero, above_some — the double above
+--   end_zero — either end where z is 0
+--   end_away, end_toward — an end as the code makes it where z is not 0: away from zero, or toward it
 use mathlib.Core.Path.{◌≡◌, refl, sym, ap, ◌∙◌, subst}
-use mathlib.Core.Bool.{Bool, true, false, not, cond}
+use mathlib.Core.Bool.{Bool, true, false, beq, cond}
 use Prim.Native.Nat.{ℕ, suc, zero, ◌-◌, ◌*◌, ◌^◌, ◌<◌}
 use native.Mathlib.Nat.{mul_comm, mul-pos}
 use native.Mathlib.Omega.{arith}
@@ -42,11 +43,9 @@ module _ (s : ℕ) (z : ℤ) where
   nothing : nat_abs z ≡ 0 → units_of s z ≡ pos 0
   nothing e = let l : z ≡ pos 0 = abs_zero z (omega arith) in rw l (*-zero (pos P))
 
-  pub below_zero : nat_abs z ≡ 0 → plus_zero ≡ below (units_of s z)
-  below_zero e = zero_below ∙ sym (ap below (nothing e))
-
-  pub above_zero : nat_abs z ≡ 0 → plus_zero ≡ above (units_of s z)
-  above_zero e = zero_above ∙ sym (ap above (nothing e))
+  pub end_zero : (low : Bool) → nat_abs z ≡ 0 → plus_zero ≡ cond low (below (units_of s z)) (above (units_of s z))
+  end_zero true e = zero_below ∙ sym (ap below (nothing e))
+  end_zero false e = zero_above ∙ sym (ap above (nothing e))
 
   down : lt_z z (pos 0) ≡ true → units_of s z ≡ neg_ℤ (pos (nat_abs z * P))
   down h = go z h
@@ -78,10 +77,14 @@ module _ (s : ℕ) (z : ℤ) where
     above_positive : lt_z z (pos 0) ≡ false → away false (a * P) ≡ above (units_of s z)
     above_positive h = ap (λ (n : ℕ). away false (n * P)) is ∙ sym (ap above (up h) ∙ (positive (nat_abs z * P)).1)
 
-    pub below_some : (b : Bool) → lt_z z (pos 0) ≡ b → cond b (away b (a * P)) (toward b (a * P)) ≡ below (units_of s z)
-    below_some true h = below_negative h
-    below_some false h = below_positive h
+    pub end_away : (b low : Bool) → lt_z z (pos 0) ≡ b → beq b low ≡ true → away b (a * P) ≡ cond low (below (units_of s z)) (above (units_of s z))
+    end_away true true h e = below_negative h
+    end_away true false h e = absurd (subst T (sym e) tt)
+    end_away false true h e = absurd (subst T (sym e) tt)
+    end_away false false h e = above_positive h
 
-    pub above_some : (b : Bool) → lt_z z (pos 0) ≡ b → cond (not b) (away b (a * P)) (toward b (a * P)) ≡ above (units_of s z)
-    above_some true h = above_negative h
-    above_some false h = above_positive h
+    pub end_toward : (b low : Bool) → lt_z z (pos 0) ≡ b → beq b low ≡ false → toward b (a * P) ≡ cond low (below (units_of s z)) (above (units_of s z))
+    end_toward true true h e = absurd (subst T e tt)
+    end_toward true false h e = above_negative h
+    end_toward false true h e = below_positive h
+    end_toward false false h e = absurd (subst T e tt)

@@ -9,7 +9,10 @@ ghost use Rattle.doubles_interval.specs.Ends.{toward, away, below, above};
 ghost use Rattle.doubles_interval.specs.Full.{Full};
 ghost use Rattle.doubles_interval.specs.Interval.{units_of, interval_of};
 
-use integer::magnitude;
+use doubles_guess::{LEADING, SIGN};
+
+// What the digits that a double has no room for count up to.
+const DROPPED: u64 = 1 << 11;
 
 // The two ends of a height, compared through their exact whole-number meaning (01, "The form to use in each place").
 #[derive(Clone, Copy)]
@@ -23,9 +26,9 @@ fn from_parts(negative: bool, digits: u64, shift: u32) -> f64
     requires { (2 ^ 52 ≤ digits) × (digits < 2 ^ 53) × (shift ≤ 2045) }
     ensures { result ≡ units binary64 negative digits shift }
 {
-    let rest = (shift as u64 + 1) * 4503599627370496 + (digits - 4503599627370496);
+    let rest = (shift as u64 + 1) * LEADING + (digits - LEADING);
     if negative {
-        f64::from_bits(9223372036854775808 + rest)
+        f64::from_bits(SIGN + rest)
     } else {
         f64::from_bits(rest)
     }
@@ -42,7 +45,7 @@ fn shifted_up(a: u64) -> Shifted
     requires { 0 < a }
     ensures { Full a result.number result.zeros }
 {
-    let zeros = u64::leading_zeros(a);
+    let zeros = a.leading_zeros();
     Shifted {
         number: a << zeros,
         zeros,
@@ -53,7 +56,7 @@ fn shifted_up(a: u64) -> Shifted
 fn leading(number: u64) -> u64
     ensures { result ≡ number / 2048 }
 {
-    number / 2048
+    number / DROPPED
 }
 
 // ±a steps, 2^s to one, cut to the 53 digits that a double has.
@@ -73,11 +76,11 @@ fn away_from_zero(negative: bool, a: u64, s: u32) -> f64
     let f = shifted_up(a);
     let digits = leading(f.number);
     let shift = 1085 - s - f.zeros;
-    if f.number % 2048 == 0 {
+    if f.number % DROPPED == 0 {
         return from_parts(negative, digits, shift);
     }
-    if digits == 9007199254740991 {
-        return from_parts(negative, 4503599627370496, shift + 1);
+    if digits == 2 * LEADING - 1 {
+        return from_parts(negative, LEADING, shift + 1);
     }
     from_parts(negative, digits + 1, shift)
 }
@@ -88,42 +91,23 @@ fn plus_zero() -> f64
     f64::from_bits(0)
 }
 
-// ±a steps, rounded up or down in absolute value.
-fn rounded(negative: bool, up: bool, a: u64, s: u32) -> f64
-    requires { (0 < a) × (s ≤ 20) }
-    ensures { result ≡ cond up (away negative (a * 2 ^ (1074 - s))) (toward negative (a * 2 ^ (1074 - s))) }
+// The double at an end of z steps: the largest not above them where it is the low end, else the smallest not below them. The low end of a negative number and
+// the high end of a positive one lie farther from zero. A zero is plus zero.
+fn end_at(low: bool, z: i64, s: u32) -> f64
+    requires { (nat_abs z < 2 ^ 63) × (s ≤ 20) }
+    ensures { result ≡ cond low (below (units_of s z)) (above (units_of s z)) }
 {
-    if up {
+    let a = z.unsigned_abs();
+    if a == 0 {
+        return plus_zero();
+    }
+    let negative = z < 0;
+    let farther = negative == low;
+    if farther {
         away_from_zero(negative, a, s)
     } else {
         toward_zero(negative, a, s)
     }
-}
-
-// The largest double not above z steps: a negative number grows in absolute value. A zero is plus zero.
-fn low_end(z: i64, s: u32) -> f64
-    requires { (nat_abs z < 2 ^ 63) × (s ≤ 20) }
-    ensures { result ≡ below (units_of s z) }
-{
-    let a = magnitude(z);
-    if a == 0 {
-        return plus_zero();
-    }
-    let negative = z < 0;
-    rounded(negative, negative, a, s)
-}
-
-// The smallest double not below z steps: a negative number shrinks in absolute value. A zero is plus zero.
-fn high_end(z: i64, s: u32) -> f64
-    requires { (nat_abs z < 2 ^ 63) × (s ≤ 20) }
-    ensures { result ≡ above (units_of s z) }
-{
-    let a = magnitude(z);
-    if a == 0 {
-        return plus_zero();
-    }
-    let negative = z < 0;
-    rounded(negative, !negative, a, s)
 }
 
 // The ends of the height x with the limit e, 2^s steps to one: of (X − E)/S and of (X + E)/S.
@@ -133,7 +117,7 @@ pub fn interval_of(x: i64, e: u64, s: u32) -> Interval
 {
     let reach = e as i64;
     Interval {
-        low: low_end(x - reach, s),
-        high: high_end(x + reach, s),
+        low: end_at(true, x - reach, s),
+        high: end_at(false, x + reach, s),
     }
 }

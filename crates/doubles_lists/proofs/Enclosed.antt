@@ -10,8 +10,7 @@ use Prim.Native.Nat.{ℕ}
 use lib.ListN.{get_or}
 use lib.Ieee.{Float}
 use Rattle.linear.specs.Matrix.{Vec}
-use Rattle.rules.specs.Refusal.{code}
-use Rattle.rules.specs.declared.Outcome.{Outcome}
+use Rattle.rules.specs.Refusal.{code, Outcome}
 use Rattle.enclosure.specs.Problem.{Problem}
 use Rattle.enclosure.specs.Demand.{Encloses, RightSide, ExactSolution, ExactSolutionOf, InLimits}
 use Rattle.enclosure.specs.Height.{HeightOf}

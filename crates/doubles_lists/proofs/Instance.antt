@@ -18,7 +18,7 @@ use Rattle.linear.specs.Slice.{at}
 use Rattle.integer.specs.Quotient.{round_div}
 use Rattle.integer.proofs.Below.{only}
 use Rattle.rules.specs.Range.{ranges, range_of, in_range, all_in_range}
-use Rattle.rules.specs.declared.Outcome.TheVariants as outcome
+use Rattle.std.specs.Prelude.{Ok}
 use Rattle.enclosure.specs.Example.{exact, loose, far_right, far_height}
 use Rattle.enclosure.specs.Reckoning.{bound}
 use Rattle.enclosure.proofs.Instance.{loose_right, loose_exact, loose_encloses, loose_bound}
@@ -38,7 +38,6 @@ use Rattle.doubles_lists.specs.Lists.{double_at}
 use Rattle.doubles_lists.specs.Inward.{Incoming, incoming, inward_answer, guesses_after, GuessesOf}
 use Rattle.doubles_lists.specs.Outward.{Outgoing, outgoing, outward_answer, ends_in, lows_after, highs_after, IntervalsOf}
 use Rattle.doubles_lists.specs.Hands.{Hands, AllBetween}
-use Rattle.doubles_lists.specs.declared.Guessed.TheVariants as guessed
 use Rattle.doubles_lists.proofs.Enclosed.{encloses_between, checked_between_at_b}
 use Rattle.doubles_lists.proofs.Inward.{after_at, each_double}
 use Rattle.doubles_lists.proofs.Inward as inward
@@ -46,7 +45,7 @@ use Rattle.doubles_lists.proofs.Outward.{low_after_lem, high_after_lem, code_not
 use Rattle.doubles_lists.proofs.Promises.{comes_back}
 use Rattle.doubles_lists.proofs.Taken.{numbers_taken, checked_taken, guesses_taken}
 
-inward_accepts : (I : Incoming) → ((i : ℕ) → T (fits binary64 (double_at I.values i))) → inward_answer I ≡ [] → GuessesOf I guessed.Accepted (guesses_after I)
+inward_accepts : (I : Incoming) → ((i : ℕ) → T (fits binary64 (double_at I.values i))) → inward_answer I ≡ [] → GuessesOf I (Ok tt) (guesses_after I)
 inward_accepts I held e = record {
   says = sym e;
   guesses = refl;
@@ -54,7 +53,7 @@ inward_accepts I held e = record {
   nearest = λ n i l. subst (Nearest I.s (double_at I.values i)) (sym (after_at I e i l)) (guess_nearest I.s (double_at I.values i));
 }
 
-pub outward_accepts : (I : Outgoing) → outward_answer I ≡ [] → IntervalsOf I outcome.Accepted (lows_after I) (highs_after I)
+pub outward_accepts : (I : Outgoing) → outward_answer I ≡ [] → IntervalsOf I (Ok tt) (lows_after I) (highs_after I)
 outward_accepts I e = record {
   says = sym e;
   lows = refl;
@@ -69,13 +68,13 @@ abbrev pub zero_doubles : List Float
 zero_doubles = replicate 32 plus_zero
 
 -- ---- 01's whole file
-accepts_checked : (J : Input) → Usable J → answer J ≡ [] → Checked J outcome.Accepted (solution_bounds_after J) (inverse_bounds_after J)
+accepts_checked : (J : Input) → Usable J → answer J ≡ [] → Checked J (Ok tt) (solution_bounds_after J) (inverse_bounds_after J)
 unfolding solution_bounds_after inverse_bounds_after
 accepts_checked J u e =
     let a = answer_ready J u.long u.inside in
     checked_ready J u.long u.inside (sym e ∙ a) (ap (λ (w : List ℕ). solution_after w J) a) (ap (λ (w : List ℕ). inverse_after w J) a)
 
-file_checked : Checked file_input outcome.Accepted (solution_bounds_after file_input) (inverse_bounds_after file_input)
+file_checked : Checked file_input (Ok tt) (solution_bounds_after file_input) (inverse_bounds_after file_input)
 file_checked = accepts_checked file_input file_usable file_accepted
 
 abbrev pub file_ends : Outgoing

@@ -33,7 +33,8 @@ use Rattle.doubles_guess.specs.Units.{Double}
 use Rattle.doubles_guess.proofs.Steps.{guess_nearest}
 use Rattle.doubles_lists.specs.Lists.{double_at, exchange_sizes}
 use Rattle.doubles_lists.specs.Inward.{Incoming, short_incoming, all_have_guess, inward_order, inward_answer, guesses_after, GuessesOf}
-use Rattle.doubles_lists.specs.declared.Guessed.TheVariants.{Accepted, Refused, NoGuess}
+use Rattle.doubles_lists.specs.declared.GuessRefusal.TheVariants.{Refused, NoGuess}
+use Rattle.std.specs.Prelude.{Ok, Err}
 use Rattle.rules.proofs.Every.{every_at, every_in, every_fails, every_not}
 
 pub record ReadyInward (I : Incoming) : Type 0 where
@@ -69,15 +70,15 @@ module _ (I : Incoming) where
   answer_0 e f g = rw (e, f, g)
 
   -- ---- the contract
-  pub in_short : short_incoming I ≡ true → GuessesOf I (Refused TooShort) I.guess
+  pub in_short : short_incoming I ≡ true → GuessesOf I (Err (Refused TooShort)) I.guess
   unfolding guesses_after
   in_short e = record { says = sym (answer_8 e); guesses = sym (accepted_old _ _ (answer_8 e)); doubles = λ n. absurd (nothing_is_not n); nearest = λ n. absurd (nothing_is_not n) }
 
-  pub in_range_lem : short_incoming I ≡ false → exchange_sizes I.n I.s ≡ false → GuessesOf I (Refused OutOfRange) I.guess
+  pub in_range_lem : short_incoming I ≡ false → exchange_sizes I.n I.s ≡ false → GuessesOf I (Err (Refused OutOfRange)) I.guess
   unfolding guesses_after
   in_range_lem e f = record { says = sym (answer_3 e f); guesses = sym (accepted_old _ _ (answer_3 e f)); doubles = λ n. absurd (nothing_is_not n); nearest = λ n. absurd (nothing_is_not n) }
 
-  pub in_none : short_incoming I ≡ false → exchange_sizes I.n I.s ≡ true → all_have_guess I ≡ false → GuessesOf I NoGuess I.guess
+  pub in_none : short_incoming I ≡ false → exchange_sizes I.n I.s ≡ true → all_have_guess I ≡ false → GuessesOf I (Err NoGuess) I.guess
   unfolding guesses_after
   in_none e f g = record { says = sym (answer_19 e f g); guesses = sym (accepted_old _ _ (answer_19 e f g)); doubles = λ n. absurd (nothing_is_not n); nearest = λ n. absurd (nothing_is_not n) }
 
@@ -88,7 +89,7 @@ module _ (I : Incoming) where
       record { held = held i; finite = subst T (sym (both_left (finite x) (in_range kind.Guess (guess_for I.s x)) (every_at I.n _ g i l))) tt }
 
   pub in_all : {after : List ℤ} → ((i : ℕ) → T (fits binary64 (double_at I.values i))) → short_incoming I ≡ false → exchange_sizes I.n I.s ≡ true → all_have_guess I ≡ true →
-      after ≡ written I.guess 0 1 (λ (i : ℕ). guess_for I.s (double_at I.values i)) I.n → GuessesOf I Accepted after
+      after ≡ written I.guess 0 1 (λ (i : ℕ). guess_for I.s (double_at I.values i)) I.n → GuessesOf I (Ok tt) after
   unfolding guesses_after
   in_all held e f g w = record {
     says = sym (answer_0 e f g);

@@ -19,7 +19,7 @@ use Rattle.linear.proofs.Written.{front_at}
 use Rattle.rules.specs.Order.{Test, number}
 use Rattle.rules.specs.Range.{in_range, all_in_range, short_column}
 use Rattle.rules.specs.declared.Kind.TheVariants as kind
-use Rattle.rules.specs.declared.Outcome.TheVariants.{Accepted, Refused}
+use Rattle.std.specs.Prelude.{Ok, Err}
 use Rattle.rules.specs.declared.Refusal.TheVariants.{TooShort, OutOfRange}
 use Rattle.rules.proofs.AllInRange.{all_at}
 use Rattle.rules.proofs.Ranges.{both_left, both_right, neither_left, neither_right, size_range, solution_scale_range, guess_range}
@@ -75,7 +75,7 @@ module _ (I : Outgoing) where
   answer_0 e f = rw (e, f)
 
   -- ---- the contract
-  pub out_short : short_outgoing I ≡ true → IntervalsOf I (Refused TooShort) I.low I.high
+  pub out_short : short_outgoing I ≡ true → IntervalsOf I (Err TooShort) I.low I.high
   unfolding lows_after highs_after
   out_short e = record {
     says = sym (answer_8 e);
@@ -84,7 +84,7 @@ module _ (I : Outgoing) where
     outward = λ n. absurd (nothing_is_not n);
   }
 
-  pub out_range : short_outgoing I ≡ false → outgoing_in_ranges I ≡ false → IntervalsOf I (Refused OutOfRange) I.low I.high
+  pub out_range : short_outgoing I ≡ false → outgoing_in_ranges I ≡ false → IntervalsOf I (Err OutOfRange) I.low I.high
   unfolding lows_after highs_after
   out_range e f = record {
     says = sym (answer_3 e f);
@@ -94,7 +94,7 @@ module _ (I : Outgoing) where
   }
 
   pub out_all : {low high : List Float} → short_outgoing I ≡ false → outgoing_in_ranges I ≡ true → low ≡ written I.low 0 1 (λ (i : ℕ). (ends_at I i).low) I.n →
-      high ≡ written I.high 0 1 (λ (i : ℕ). (ends_at I i).high) I.n → IntervalsOf I Accepted low high
+      high ≡ written I.high 0 1 (λ (i : ℕ). (ends_at I i).high) I.n → IntervalsOf I (Ok tt) low high
   unfolding lows_after highs_after
   out_all {low} {high} e f l h =
       let r = ready e (both_left (exchange_sizes I.n I.s) _ f) in

@@ -14,8 +14,7 @@ use lib.ListN.{get_or}
 use lib.Signed.{◌≤ℤ◌, ◌<ℤ◌}
 use lib.Ieee.{Float}
 use Rattle.linear.specs.Slice.{at}
-use Rattle.rules.specs.Refusal.{code}
-use Rattle.rules.specs.declared.Outcome.{Outcome}
+use Rattle.rules.specs.Refusal.{code, Outcome}
 use Rattle.doubles_guess.specs.Guess.{guess_for}
 use Rattle.doubles_guess.specs.Units.{whole, Double}
 use Rattle.doubles_guess.proofs.Steps.{guess_whole}
@@ -23,9 +22,8 @@ use Rattle.doubles_interval.specs.Interval.{units_of, Outward, Between, WithinLi
 use Rattle.doubles_interval.proofs.Ends.{nothing_below, nothing_above}
 use Rattle.doubles_interval.proofs.Heights.{between, ordered, wider, meets, again, round_trip}
 use Rattle.doubles_lists.specs.Lists.{double_at}
-use Rattle.doubles_lists.specs.Inward.{guesses_code, Incoming, GuessesOf}
+use Rattle.doubles_lists.specs.Inward.{guesses_code, Incoming, GuessesOf, Guessed}
 use Rattle.doubles_lists.specs.Outward.{Outgoing, outgoing, ends_in, IntervalsOf}
-use Rattle.doubles_lists.specs.declared.Guessed.{Guessed}
 use Rattle.doubles_lists.proofs.Inward as inward
 use Rattle.doubles_lists.proofs.Outward as outward
 

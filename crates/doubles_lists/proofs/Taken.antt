@@ -19,9 +19,8 @@ use Rattle.linear.specs.Slice.{at}
 use Rattle.linear.specs.Written.{written}
 use Rattle.linear.proofs.Written.{written_length, front_at}
 use Rattle.rules.specs.Range.{in_range, range_of, ranges, short_column}
-use Rattle.rules.specs.Refusal.{code}
+use Rattle.rules.specs.Refusal.{code, Outcome}
 use Rattle.rules.specs.declared.Kind.TheVariants as kind
-use Rattle.rules.specs.declared.Outcome.{Outcome}
 use Rattle.rules.proofs.AllInRange.{all_in}
 use Rattle.rules.proofs.Ranges.{both, both_left, both_right, neither_right, size_range, in_size_range, guess_range}
 use Rattle.enclosure.specs.Reckoning.{bound}
@@ -40,9 +39,8 @@ use Rattle.doubles_guess.specs.Units.{Double}
 use Rattle.doubles_guess.proofs.Steps.{guess_whole}
 use Rattle.doubles_interval.specs.Interval.{Steps}
 use Rattle.doubles_lists.specs.Lists.{double_at}
-use Rattle.doubles_lists.specs.Inward.{Incoming, guesses_code, inward_answer, GuessesOf}
+use Rattle.doubles_lists.specs.Inward.{Incoming, guesses_code, inward_answer, GuessesOf, Guessed}
 use Rattle.doubles_lists.specs.Outward.{outgoing, outward_answer}
-use Rattle.doubles_lists.specs.declared.Guessed.{Guessed}
 use Rattle.doubles_lists.proofs.Inward as inward
 use Rattle.rules.proofs.Every.{every_in}
 use Rattle.doubles_lists.proofs.Outward as outward

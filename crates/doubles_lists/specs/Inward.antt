@@ -1,6 +1,7 @@
 -- Doubles in: what `guesses_of` says and leaves. Document 02, Paper 11: "A double becomes a guess by rounding its exact value times S to a nearest whole
 -- number, halves away from zero; minus zero gives 0. [..] (8 and 3 first, then new 19, for a double that is not finite or whose guess leaves its range; the
 -- guess list is untouched. [..])"
+--   Guessed        — the answer: nothing beside it where the guesses are written, or a refusal
 --   guesses_code r — what an answer says: nothing where it is accepted, else the number of the refusal and its values
 --   Incoming, incoming — n, s, the doubles, and the guess list as it comes in
 --   short_incoming I — 8: a lent list is too short
@@ -9,7 +10,7 @@
 --   guesses_after I — the guess list after the call: the first n guesses where nothing is said, the rest as before; all as before on a refusal
 --   GuessesOf — the contract of `guesses_of`: what is said, the list, and where nothing is said each guess in 02's words, of a finite double, so that `whole`
 --     is its exact value
-use Rattle.std.specs.Prelude.{Bool, not, ◌||◌, List, [], ◌∷◌, ◌≡◌, ℕ, ◌<◌, ℤ, length, Float}
+use Rattle.std.specs.Prelude.{Bool, not, ◌||◌, List, [], ◌∷◌, ◌≡◌, ℕ, ◌<◌, ℤ, length, Float, Result, Ok, Err, ⊤}
 use Rattle.integer.specs.Finite.{every}
 use Rattle.linear.specs.Slice.{at}
 use Rattle.linear.specs.Written.{written}
@@ -19,13 +20,16 @@ use Rattle.rules.specs.Refusal.{number_of, values_of}
 use Rattle.doubles_guess.specs.Guess.{guess_for, has_guess, Nearest}
 use Rattle.doubles_lists.specs.Lists.{double_at, exchange_sizes}
 use Rattle.doubles_guess.specs.Units.{Double}
-use Rattle.doubles_lists.specs.declared.Guessed.{Guessed}
-use Rattle.doubles_lists.specs.declared.Guessed.TheVariants.{Accepted, Refused, NoGuess}
+use Rattle.doubles_lists.specs.declared.GuessRefusal.{GuessRefusal}
+use Rattle.doubles_lists.specs.declared.GuessRefusal.TheVariants.{Refused, NoGuess}
+
+abbrev pub Guessed : Type 0
+Guessed = Result ⊤ GuessRefusal
 
 abbrev pub guesses_code : Guessed → List ℕ
-guesses_code Accepted = []
-guesses_code (Refused r) = number_of r ∷ values_of r
-guesses_code NoGuess = 19 ∷ []
+guesses_code (Ok tt) = []
+guesses_code (Err (Refused r)) = number_of r ∷ values_of r
+guesses_code (Err NoGuess) = 19 ∷ []
 
 pub record Incoming : Type 0 where
   pub n : ℕ

@@ -16,9 +16,8 @@ use Rattle.linear.specs.Slice.{at}
 use Rattle.linear.specs.Written.{written}
 use Rattle.rules.specs.Order.{Test, number, verdict, if_accepted}
 use Rattle.rules.specs.Range.{all_in_range, short_column}
-use Rattle.rules.specs.Refusal.{code}
+use Rattle.rules.specs.Refusal.{code, Outcome}
 use Rattle.rules.specs.declared.Kind.TheVariants as kind
-use Rattle.rules.specs.declared.Outcome.{Outcome}
 use Rattle.doubles_interval.specs.Interval.{interval_of, Outward}
 use Rattle.doubles_interval.specs.declared.Interval.{Interval}
 use Rattle.doubles_lists.specs.Lists.{double_at, exchange_sizes}

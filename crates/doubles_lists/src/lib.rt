@@ -13,16 +13,19 @@ ghost use Rattle.doubles_lists.specs.Outward.{IntervalsOf, outgoing, SmallInterv
 
 use doubles_guess::guess_of;
 use doubles_interval::interval_of;
-use rules::{COLUMN_LENGTH, Kind, Outcome, Refusal, all_in_range, is_natural_in_range};
+use rules::{COLUMN_LENGTH, Kind, Refusal, all_in_range, is_natural_in_range};
 
-// The answer to doubles that are to become guesses.
+// Why doubles do not become guesses.
 #[derive(Clone, Copy)]
-pub enum Guessed {
-    Accepted,
+pub enum GuessRefusal {
+    // 8 or 3
     Refused(Refusal),
     // 19: a double that is not finite, or whose guess leaves its range
     NoGuess,
 }
+
+// The greatest limit of a height that goes out.
+const MOST_LIMIT: u64 = 1 << 60;
 
 // 3 for n and s.
 fn are_sizes_in_range(n: u32, s: u32) -> bool
@@ -36,12 +39,7 @@ fn all_have_guess(n: usize, s: u32, values: &[f64]) -> bool
     requires { (n ≤ length values.now) × (s ≤ 20) }
     ensures { result ≡ every n (λ (i : ℕ). has_guess s (double_at values.now i)) }
 {
-    let mut all = true;
-    for i in 0..n {
-        let g = guess_of(values[i], s);
-        all = g.found & all;
-    }
-    all
+    values[..n].iter().all(|&x| guess_of(x, s).is_some())
 }
 
 fn write_guesses(n: usize, s: u32, values: &[f64], guess: &mut [i64])
@@ -49,32 +47,30 @@ fn write_guesses(n: usize, s: u32, values: &[f64], guess: &mut [i64])
     requires i_value { every n (λ (i : ℕ). has_guess s (double_at values.now i)) ≡ true }
     ensures { guess.new ≡ written guess.old 0 1 (λ (i : ℕ). guess_for s (double_at values.now i)) n }
 {
-    for i in 0..n {
-        let g = guess_of(values[i], s);
-        let steps = g.steps;
-        guess[i] = steps;
+    for (i, &x) in values[..n].iter().enumerate() {
+        guess[i] = guess_of(x, s).unwrap();
     }
 }
 
 // Inward: the first n doubles as guesses. Order 8, 3, 19; a refusal leaves the guess list as it was.
-pub fn guesses_of(n: u32, s: u32, values: &[f64], guess: &mut [i64]) -> Guessed
+pub fn guesses_of(n: u32, s: u32, values: &[f64], guess: &mut [i64]) -> Result<(), GuessRefusal>
     ensures { GuessesOf (incoming n s values.now guess.old) result guess.new }
 {
     if values.len() < COLUMN_LENGTH {
-        return Guessed::Refused(Refusal::TooShort);
+        return Err(GuessRefusal::Refused(Refusal::TooShort));
     }
     if guess.len() < COLUMN_LENGTH {
-        return Guessed::Refused(Refusal::TooShort);
+        return Err(GuessRefusal::Refused(Refusal::TooShort));
     }
     if are_sizes_in_range(n, s) {
         let size = n as usize;
         if all_have_guess(size, s, values) {
             write_guesses(size, s, values, guess);
-            return Guessed::Accepted;
+            return Ok(());
         }
-        return Guessed::NoGuess;
+        return Err(GuessRefusal::NoGuess);
     }
-    Guessed::Refused(Refusal::OutOfRange)
+    Err(GuessRefusal::Refused(Refusal::OutOfRange))
 }
 
 // 3 for the limits: whether each of the first n is at most 2^60.
@@ -82,11 +78,7 @@ fn all_bounds_in_range(n: usize, bounds: &[u64]) -> bool
     requires { n ≤ length bounds.now }
     ensures { result ≡ every n (λ (i : ℕ). leb (get_or bounds.now i 0) (2 ^ 60)) }
 {
-    let mut all = true;
-    for i in 0..n {
-        all = (bounds[i] <= 1152921504606846976) & all;
-    }
-    all
+    bounds[..n].iter().all(|&e| e <= MOST_LIMIT)
 }
 
 fn write_intervals(
@@ -102,8 +94,8 @@ fn write_intervals(
     ensures low_after { low.new ≡ written low.old 0 1 (λ (i : ℕ). (interval_of s (at guess.now i) (get_or bounds.now i 0)).low) n }
     ensures high_after { high.new ≡ written high.old 0 1 (λ (i : ℕ). (interval_of s (at guess.now i) (get_or bounds.now i 0)).high) n }
 {
-    for i in 0..n {
-        let v = interval_of(guess[i], bounds[i], s);
+    for (i, &x) in guess[..n].iter().enumerate() {
+        let v = interval_of(x, bounds[i], s);
         low[i] = v.low;
         high[i] = v.high;
     }
@@ -123,20 +115,20 @@ pub fn intervals_of(
     bounds: &[u64],
     low: &mut [f64],
     high: &mut [f64],
-) -> Outcome
+) -> Result<(), Refusal>
     ensures { IntervalsOf (outgoing n s guess.now bounds.now low.old high.old) result low.new high.new }
 {
     if is_short(guess.len(), bounds.len(), low.len(), high.len()) {
-        return Outcome::Refused(Refusal::TooShort);
+        return Err(Refusal::TooShort);
     }
     if are_sizes_in_range(n, s) {
         let size = n as usize;
         if all_in_range(Kind::Guess, guess, size) {
             if all_bounds_in_range(size, bounds) {
                 write_intervals(size, s, guess, bounds, low, high);
-                return Outcome::Accepted;
+                return Ok(());
             }
         }
     }
-    Outcome::Refused(Refusal::OutOfRange)
+    Err(Refusal::OutOfRange)
 }

@@ -17,25 +17,28 @@ pub fn entry_bound(x: i64, e: u64, s: u32) -> u64
     integer::ceil_sum(e, integer::distance(x, steps, value), steps)
 }
 
-// A register entry, V and its limit, or a refusal.
+// A register entry: V and its limit.
 #[derive(Clone, Copy)]
-pub enum Registered {
-    Entry(i64, u64),
-    Refused(Refusal),
+pub struct Entry {
+    pub value: i64,
+    pub limit: u64,
 }
 
 fn can_enter(x: i64, s: u32) -> bool
     ensures { result ≡ can_enter x s }
 {
-    rules::is_in_range(Kind::Guess, x) & rules::is_in_range(Kind::SolutionScale, s as i64)
+    rules::is_in_range(Kind::Guess, x) && rules::is_in_range(Kind::SolutionScale, s as i64)
 }
 
 // The register entry of a guess x and its limit e, for the solution scale s; 3 where x or s is out of range.
-pub fn register_entry(x: i64, e: u64, s: u32) -> Registered
+pub fn register_entry(x: i64, e: u64, s: u32) -> Result<Entry, Refusal>
     ensures { RegisteredAs x e s result }
 {
-    if can_enter(x, s) {
-        return Registered::Entry(integer::round_scaled(x, s), entry_bound(x, e, s));
+    if !can_enter(x, s) {
+        return Err(Refusal::OutOfRange);
     }
-    Registered::Refused(Refusal::OutOfRange)
+    Ok(Entry {
+        value: integer::round_scaled(x, s),
+        limit: entry_bound(x, e, s),
+    })
 }

@@ -7,12 +7,11 @@ use mathlib.Core.List.{List, [], ◌∷◌}
 use Prim.Native.Nat.{ℕ, ◌+◌, ◌-◌, ◌≤◌, ◌<◌}
 use native.Mathlib.Omega.{arith}
 use lib.ListN.{length, take, drop}
-use Rattle.rules.specs.Refusal.{code, number_of, values_of}
-use Rattle.rules.specs.declared.Outcome.{Outcome}
-use Rattle.rules.specs.declared.Outcome.TheVariants.{Accepted, Refused}
+use Rattle.rules.specs.Refusal.{code, number_of, values_of, Outcome}
+use Rattle.std.specs.Prelude.{Ok, Err}
 use Rattle.rules.specs.declared.Refusal.{Refusal}
 use Rattle.rules.proofs.Verdicts.{accepted_old}
-use Rattle.loader_lists.specs.Lists.{Lists, lists}
+use Rattle.loader_lists.specs.Lists.{Lists}
 use Rattle.loader.specs.declared.Loader.{Loader}
 use Rattle.loader.specs.declared.Taken.{Taken}
 use Rattle.loader.specs.Answer.{line_answer}
@@ -23,7 +22,6 @@ use Rattle.loader_runs.specs.Read.{Reading, read_from, zeros}
 use Rattle.loader_runs.specs.Run.{state_with, from_new}
 use Rattle.loader_runs.proofs.Lines.{lines_at, lines_end}
 use Rattle.loader_runs.proofs.Read.{read_none, read_accepted, read_refused}
-use Rattle.file.specs.declared.Collected.{Collected}
 use Rattle.file.specs.declared.LinesTaken.{LinesTaken}
 use Rattle.file.specs.Read.{LinesTakenAs, ReadAs}
 
@@ -47,8 +45,8 @@ taken_as o k d = record { outcome = o; line = k; loader = d }
 read_as : (file : List ℕ) (old : Lists) {l : Lists} {k : ℕ} {d : Loader} (o : Outcome) → record { code = code o; line = k; state = state_with d l } ≡ read_with old file → LinesTakenAs file old (taken_as o k d) l
 read_as file old o e = record { says = ap (λ (R : Reading). R.code) e; line = ap (λ (R : Reading). R.line) e; state = ap (λ (R : Reading). R.state) e }
 
-pub at_end : (file : List ℕ) (old : Lists) {l : Lists} {k at : ℕ} {d : Loader} → ReadUpTo file old k at d l → length file ≤ at → LinesTakenAs file old (taken_as Accepted k d) l
-at_end file old {l} {k} {at} {d} h m = read_as file old Accepted (sym (read_none k (state_with d l)) ∙ rw (lines_end file m) at h.so)
+pub at_end : (file : List ℕ) (old : Lists) {l : Lists} {k at : ℕ} {d : Loader} → ReadUpTo file old k at d l → length file ≤ at → LinesTakenAs file old (taken_as (Ok tt) k d) l
+at_end file old {l} {k} {at} {d} h m = read_as file old (Ok tt) (sym (read_none k (state_with d l)) ∙ rw (lines_end file m) at h.so)
 
 pub from_zeros : (file : List ℕ) {old new : Lists} {r : LinesTaken} → LinesTakenAs file old r new → old ≡ zeros →
     ReadAs file (record { outcome = r.outcome; line = r.line; loader = r.loader; matrix = new.matrix; right = new.right; tolerance = new.tolerance; guess = new.guess; inverse = new.inverse; weights = new.weights })
@@ -65,7 +63,7 @@ module _ (file : List ℕ) (old : Lists) {l l' : Lists} {k at end : ℕ} {d : Lo
   split : read_from k (state_with d l) (line ∷ rest) ≡ read_with old file
   split = rw (lines_at file inside place.0) at h.so
 
-  pub read_on : r.outcome ≡ Accepted → ReadUpTo file old (k + 1) (end + 1) r.loader l'
+  pub read_on : r.outcome ≡ Ok tt → ReadUpTo file old (k + 1) (end + 1) r.loader l'
   read_on e =
       let s : line_answer d l line ≡ [] = sym taken.says ∙ ap code e in
       record {
@@ -74,9 +72,9 @@ module _ (file : List ℕ) (old : Lists) {l l' : Lists} {k at end : ℕ} {d : Lo
         inside = omega (arith, place.1);
       }
 
-  pub read_refusal : (x : Refusal) → r.outcome ≡ Refused x → LinesTakenAs file old (taken_as (Refused x) (k + 1) d) l'
+  pub read_refusal : (x : Refusal) → r.outcome ≡ Err x → LinesTakenAs file old (taken_as (Err x) (k + 1) d) l'
   unfolding lists_after
   read_refusal x s =
       let a : line_answer d l line ≡ number_of x ∷ values_of x = sym taken.says ∙ ap code s in
       let same : l' ≡ l = taken.lists ∙ accepted_old _ _ a in
-      read_as file old (Refused x) (rw same (sym (read_refused k (state_with d l) line rest a) ∙ split))
+      read_as file old (Err x) (rw same (sym (read_refused k (state_with d l) line rest a) ∙ split))

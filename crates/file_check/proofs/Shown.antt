@@ -6,9 +6,8 @@ use mathlib.Core.List.{List, [], ◌∷◌}
 use Prim.Native.Nat.{ℕ, ◌+◌, ◌*◌, ◌/◌, ◌%◌}
 use native.Mathlib.Omega.{arith}
 use lib.ListN.{get_or, length}
-use Rattle.rules.specs.Refusal.{code, number_of, values_of}
-use Rattle.rules.specs.declared.Outcome.{Outcome}
-use Rattle.rules.specs.declared.Outcome.TheVariants.{Accepted, Refused}
+use Rattle.rules.specs.Refusal.{code, number_of, values_of, Outcome}
+use Rattle.std.specs.Prelude.{Ok, Err}
 use Rattle.rules.specs.declared.Refusal.{Refusal}
 use Rattle.linear.specs.Slice.{at}
 use Rattle.linear.proofs.Places.{square}
@@ -33,12 +32,12 @@ use Rattle.file_check.proofs.Agreed.{report_same}
 
 module _ (s : Stage) (I : Input) where
   -- ---- refused
-  pub shown_refused : {r : Outcome} {E L o p : List ℕ} {a : FileAnswer} → CheckedThrough s I r E L → (x : Refusal) → r ≡ Refused x →
+  pub shown_refused : {r : Outcome} {E L o p : List ℕ} {a : FileAnswer} → CheckedThrough s I r E L → (x : Refusal) → r ≡ Err x →
       Answered (printed 0 (number_of x ∷ values_of x)) (refused_of (printed 0 (number_of x ∷ values_of x))) o p a → Answered (printed 0 (answer_through s I)) (line_or (printed 0 (answer_through s I)) (reported_of (problem I))) o p a
   shown_refused {r} {E} {L} {o} {p} {a} c x e = subst (λ (k : List ℕ). Answered (printed 0 k) (line_or (printed 0 k) (reported_of (problem I))) o p a) (sym (ap code e) ∙ c.says)
 
   -- ---- accepted
-  module _ {r : Outcome} {E L : List ℕ} (c : CheckedThrough s I r E L) (e : r ≡ Accepted) where
+  module _ {r : Outcome} {E L : List ℕ} (c : CheckedThrough s I r E L) (e : r ≡ Ok tt) where
     quiet : answer_through s I ≡ []
     quiet = sym c.says ∙ ap code e
 

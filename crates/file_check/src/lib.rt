@@ -10,7 +10,6 @@ ghost use Rattle.file_check.specs.Shown.{code_of, shown_of};
 use listing_refusal::{FileAnswer, no_refusal, put_refusal};
 use listing_report::put_report;
 use loader::Loader;
-use rules::Outcome;
 
 // What the check of a loader and its lists says, or the report; 15 where the file stopped before an end.
 pub fn put_checked(
@@ -31,7 +30,7 @@ pub fn put_checked(
 {
     let mut solution_bounds = [0u64; 32];
     let mut inverse_bounds = [0u64; 1024];
-    let outcome = loader.check(
+    match loader.check(
         matrix,
         right,
         tolerance,
@@ -40,10 +39,9 @@ pub fn put_checked(
         weights,
         &mut solution_bounds,
         &mut inverse_bounds,
-    );
-    match outcome {
-        Outcome::Refused(refusal) => put_refusal(out, refusal, 0),
-        Outcome::Accepted => {
+    ) {
+        Err(refusal) => put_refusal(out, refusal, 0),
+        Ok(()) => {
             let n = loader.size() as usize;
             let s = loader.solution_scale();
             let length = put_report(out, n, s, guess, &solution_bounds, &inverse_bounds);

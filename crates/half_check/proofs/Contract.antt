@@ -7,8 +7,8 @@ use Prim.Native.Nat.{ℕ}
 use lib.IntN.{ℤ}
 use lib.ListN.{length}
 use Rattle.integer.proofs.Search.{clash}
-use Rattle.rules.specs.declared.Outcome.{Outcome}
-use Rattle.rules.specs.declared.Outcome.TheVariants.{Refused}
+use Rattle.rules.specs.Refusal.{Outcome}
+use Rattle.std.specs.Prelude.{Err}
 use Rattle.rules.specs.declared.Refusal.TheVariants.{TooShort}
 use Rattle.check_spec.specs.Checked.{Checked}
 use Rattle.check_spec.specs.Input.{Input}
@@ -16,7 +16,7 @@ use Rattle.half_fill.specs.Half.{short_half, filled_out}
 use Rattle.half_check.specs.Checked.{with_matrix, CheckedHalf}
 
 module _ (H : Input) where
-  pub half_short : short_half (length H.matrix) ≡ true → CheckedHalf H (Refused TooShort) H.solution_bounds H.inverse_bounds
+  pub half_short : short_half (length H.matrix) ≡ true → CheckedHalf H (Err TooShort) H.solution_bounds H.inverse_bounds
   half_short e = record { short_half_lem = λ _. (refl, (refl, refl)); as_square = λ f. absurd (clash (short_half (length H.matrix)) e f) }
 
   pub half_filled : short_half (length H.matrix) ≡ false → {A : List ℤ} {r : Outcome} {E L : List ℕ} → A ≡ filled_out H.n H.matrix →

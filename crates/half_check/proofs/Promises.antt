@@ -15,9 +15,8 @@ use Rattle.linear.specs.Matrix.{Vec, Mat}
 use Rattle.linear.specs.Slice.{at}
 use Rattle.rules.specs.Order.{number}
 use Rattle.rules.specs.Range.{in_range}
-use Rattle.rules.specs.Refusal.{code}
+use Rattle.rules.specs.Refusal.{code, Outcome}
 use Rattle.rules.specs.declared.Kind.TheVariants as kind
-use Rattle.rules.specs.declared.Outcome.{Outcome}
 use Rattle.rules.proofs.Ranges.{not_first}
 use Rattle.rules.proofs.Tests.{code_exactly}
 use Rattle.rules.proofs.Verdicts.{nothing_is_not}

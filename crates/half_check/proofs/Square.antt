@@ -12,9 +12,8 @@ use lib.IntN.{ℤ, pos}
 use lib.ListN.{get_or, length}
 use Rattle.linear.specs.Slice.{at, matrix_of}
 use Rattle.rules.specs.Range.{in_range, short_matrix}
-use Rattle.rules.specs.Refusal.{code}
+use Rattle.rules.specs.Refusal.{code, Outcome}
 use Rattle.rules.specs.declared.Kind.TheVariants as kind
-use Rattle.rules.specs.declared.Outcome.{Outcome}
 use Rattle.rules.proofs.Ranges.{both_left, not_first, neither_right, size_range}
 use Rattle.check_spec.specs.Checked.{Checked}
 use Rattle.check_spec.specs.Input.{Input, short}

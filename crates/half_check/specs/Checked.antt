@@ -4,8 +4,7 @@
 --   CheckedHalf — the contract of `check_half`: 8 and both limit lists as before where the half is too short; else the contract of the check on lists
 --                 for the filled-out matrix, with its outcome, its limit lists and both halves of demand 3
 use Rattle.std.specs.Prelude.{true, false, List, [], ◌∷◌, ◌≡◌, ℕ, ℤ, length}
-use Rattle.rules.specs.Refusal.{code}
-use Rattle.rules.specs.declared.Outcome.{Outcome}
+use Rattle.rules.specs.Refusal.{code, Outcome}
 use Rattle.check_spec.specs.Checked.{Checked}
 use Rattle.check_spec.specs.Input.{Input, input}
 use Rattle.half_fill.specs.Half.{short_half, filled_out}

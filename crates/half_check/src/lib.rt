@@ -6,7 +6,7 @@ ghost use Rattle.half_check.specs.Checked.{CheckedHalf};
 
 use check_lists::check;
 use half_fill::{HALF_LENGTH, fill_out};
-use rules::{Outcome, Refusal};
+use rules::Refusal;
 
 // The check of the filled-out matrix. Order 8, 3, 5, 6, 7; where n is out of range the half is not read.
 pub fn check_half(
@@ -21,13 +21,13 @@ pub fn check_half(
     weights: &[i64],
     solution_bounds: &mut [u64],
     inverse_bounds: &mut [u64],
-) -> Outcome
+) -> Result<(), Refusal>
     ensures { CheckedHalf (input n s t half.now right.now tolerance.now guess.now
         inverse.now weights.now solution_bounds.old inverse_bounds.old)
         result solution_bounds.new inverse_bounds.new }
 {
     if half.len() < HALF_LENGTH {
-        return Outcome::Refused(Refusal::TooShort);
+        return Err(Refusal::TooShort);
     }
     let matrix = fill_out(n, half);
     check(

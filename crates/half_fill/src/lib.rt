@@ -22,18 +22,17 @@ fn next_place(place: usize, i: usize, j: usize) -> usize
     place + (j + 1)
 }
 
-// Writes row i from index `to` on; its first number is at index `from` of the half.
+// Writes row i from index `to` on; its first number is at index `from` of the half. The loop goes by column, which `next_place` takes, as that of `fill_rows`
+// goes by row: `iter_mut().enumerate()` over the part of `out` is no plainer.
 fn fill_row(out: &mut [i64; 1024], to: usize, half: &[i64], from: usize, i: usize, n: usize)
     requires n_bound { (n ≤ 32) × ((i < n) × (528 ≤ length half.now)) }
     requires to_value { (to ≡ i * n) × (from ≡ lower_place i 0) }
     ensures { out.new ≡ written out.old to 1 (λ (j : ℕ). at half.now (half_place i j)) n }
 {
-    let mut at_out = to;
-    let mut at_half = from;
+    let mut place = from;
     for j in 0..n {
-        out[at_out] = half[at_half];
-        at_out += 1;
-        at_half = next_place(at_half, i, j);
+        out[to + j] = half[place];
+        place = next_place(place, i, j);
     }
 }
 

@@ -18,17 +18,17 @@ pub fn magnitude(x: i64) -> u64
     requires { nat_abs x < 2 ^ 63 }
     ensures { result ≡ nat_abs x }
 {
-    if x < 0 { (-x) as u64 } else { x as u64 }
+    x.unsigned_abs()
 }
 
 // The larger of two numbers.
 pub fn larger(a: u64, b: u64) -> u64
     ensures { result ≡ max a b }
 {
-    if a < b { b } else { a }
+    a.max(b)
 }
 
-// 01: "rounded up to a whole number".
+// 01: "rounded up to a whole number". Not std's `div_ceil`: the edit ceil_rounds_down and the definition `ceil_div` speak of the divisor less 1 that is added.
 pub fn ceil_div(a: u64, b: u64) -> u64
     requires { (0 < b) × (a + b ≤ 2 ^ 64) }
     ensures { result ≡ ceil_div a b }

@@ -12,7 +12,7 @@ use build::build;
 use build_equations::Layout;
 use build_lines::Observation;
 use check_lists::check;
-use entry::{Registered, register_entry};
+use entry::register_entry;
 use listing::answer_file;
 use listing_refusal::{no_refusal, reply_of};
 use reply::searches::{found_reply, tried_or};
@@ -93,14 +93,13 @@ pub extern "C" fn kodarfi_entry(
     ensures { EntryExported guess bound s value.old value_bound.old
         result places.new value.new value_bound.new }
 {
-    let registered = register_entry(guess, bound, s);
-    match registered {
-        Registered::Entry(v, e) => {
-            *value = v;
-            *value_bound = e;
+    match register_entry(guess, bound, s) {
+        Ok(entry) => {
+            *value = entry.value;
+            *value_bound = entry.limit;
             write_reply(no_refusal(), places)
         }
-        Registered::Refused(refusal) => write_reply(reply_of(refusal, 0), places),
+        Err(refusal) => write_reply(reply_of(refusal, 0), places),
     }
 }
 

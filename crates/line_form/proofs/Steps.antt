@@ -1,39 +1,38 @@
 -- Laws of the parts of a line, in the form in which the code meets them.
---   word_all, word_short, word_same, word_other — a word, byte by byte
+--   word_test — whether a word stands at a place
 --   word_yes, word_no, word_fits — the place after it
 --   or_yes, or_no — one word more
-use mathlib.Core.Path.{◌≡◌, sym, ap, ◌∙◌}
-use mathlib.Core.Bool.{Bool, true, false}
-use mathlib.Core.List.{List}
-use Prim.Native.Nat.{ℕ, ◌+◌, ◌≤◌, ◌<◌, max}
-use native.Mathlib.Numerals.{add-one}
-use native.Mathlib.Omega.{arith}
-use borrow.Author.Tests.{eq-eqb, ne_eqb, le-leb, lt-leb}
-use lib.ListN.{length, drop, get_or, drop_of_length-le, length-append, length-drop}
-use lib.Seq.{drop-cons}
+--   next_word, last_word — the loop over the words, at a word and after the last
+use Rattle.std.proofs.Common.{◌≡◌, ℕ, ◌+◌, ◌-◌, ◌≤◌, ◌<◌, min, max, Bool, true, false, ◌&&◌, eqb, List, [], ◌∷◌, length, get_or, take, drop, drop_of_length-le, drop-cons, add-one, refl, sym, ap, ap₂, ◌∙◌, arith, length-append, length-drop, eq-eqb, ne_eqb, eqb-true, le-leb}
+use borrow.Author.Tests.{lt-leb}
+use Rattle.std.specs.List.{starts_with}
+use Rattle.std.proofs.Math.Seq.{take-length}
+use Rattle.std.proofs.lemmas.Bool.{eqb-false}
+use Rattle.std.proofs.lemmas.List.{drop_min}
 use Rattle.line_numeral.specs.Numeral.{lost}
 use Rattle.line_form.specs.declared.Head.{Head}
 use Rattle.line_form.specs.declared.Word.{Word}
-use Rattle.line_form.specs.declared.Word.TheVariants.{Problem, Scale, Row, Right, Guess, Inverse, Weight, End}
-use Rattle.line_form.specs.Reading.{opening, starts, word_at, or_word, first_of, head_at}
+use Rattle.line_form.specs.Reading.{opening, starts, word_at, or_word, first_of}
 use Rattle.line_form.proofs.Words.{starts_is}
 
-module _ (s w : List ℕ) (j i : ℕ) where
-  pub word_all : length w ≤ i → true ≡ starts (drop i w) (drop j s)
-  unfolding starts
-  word_all h = rw (drop_of_length-le w h)
+eqb_sym : (m n : ℕ) → eqb m n ≡ eqb n m
+eqb_sym m n = go (eqb m n) refl
+  where
+    go : (t : Bool) → eqb m n ≡ t → t ≡ eqb n m
+    go true e = rw (eq-eqb n m (sym (eqb-true m n e)))
+    go false e = rw (ne_eqb n m (λ q. eqb-false m n e (sym q)))
 
-  pub word_short : i < length w → length s ≤ j → false ≡ starts (drop i w) (drop j s)
-  unfolding starts
-  word_short h l = rw (drop-cons w i 0, drop_of_length-le s l)
+starts_with_is : (w l : List ℕ) → starts_with eqb l w ≡ starts w l
+unfolding starts
+starts_with_is [] l = refl
+starts_with_is (b ∷ w) [] = refl
+starts_with_is (b ∷ w) (c ∷ l) = ap₂ (λ (t u : Bool). t && u) (eqb_sym b c) (starts_with_is w l)
 
-  pub word_same : i < length w → j < length s → get_or s j 0 ≡ get_or w i 0 → starts (drop (i + 1) w) (drop (j + 1) s) ≡ starts (drop i w) (drop j s)
-  unfolding starts
-  word_same h l e = rw (drop-cons w i 0, drop-cons s j 0, eq-eqb _ _ e, add-one i, add-one j)
-
-  pub word_other : i < length w → j < length s → (get_or s j 0 ≡ get_or w i 0 → ⊥) → false ≡ starts (drop i w) (drop j s)
-  unfolding starts
-  word_other h l e = rw (drop-cons w i 0, drop-cons s j 0, ne_eqb _ _ e)
+-- the test of the bytes from a place on, of which there may be none
+pub word_test : (s w : List ℕ) (at : ℕ) {m : ℕ} → m ≡ min at (length s) → starts_with eqb (take (length s - m) (drop m s)) w ≡ starts w (drop at s)
+word_test s w at {m} e =
+    let n : take (length s - m) (drop m s) ≡ drop m s = rw (← length-drop m s) (take-length (drop m s)) in
+    rw (n, e, drop_min at s) (starts_with_is w (drop at s))
 
 module _ (s w : List ℕ) (at : ℕ) {t : Bool} (e : t ≡ starts w (drop at s)) where
   pub word_yes : t ≡ true → at + length w ≡ word_at s at w
@@ -58,16 +57,12 @@ module _ (s : List ℕ) (at : ℕ) (h : Head) (w : Word) (o : List ℕ) where
   unfolding or_word
   or_no l e = rw (lt-leb h.next (length s) l, e)
 
--- the eight words, one after another
-pub eight_words : (s : List ℕ) (at : ℕ) {h₁ h₂ h₃ h₄ h₅ h₆ h₇ h₈ : Head}
-    → h₁ ≡ or_word s at (record { word = End; next = lost s }) Problem (opening Problem)
-    → h₂ ≡ or_word s at h₁ Scale (opening Scale)
-    → h₃ ≡ or_word s at h₂ Row (opening Row)
-    → h₄ ≡ or_word s at h₃ Right (opening Right)
-    → h₅ ≡ or_word s at h₄ Guess (opening Guess)
-    → h₆ ≡ or_word s at h₅ Inverse (opening Inverse)
-    → h₇ ≡ or_word s at h₆ Weight (opening Weight)
-    → h₈ ≡ or_word s at h₇ End (opening End)
-    → h₈ ≡ head_at s at
-unfolding head_at first_of
-eight_words s at e₁ e₂ e₃ e₄ e₅ e₆ e₇ e₈ = rw (e₈, e₇, e₆, e₅, e₄, e₃, e₂, e₁)
+-- the words, one after another
+module _ (s : List ℕ) (at : ℕ) (h : Head) (ws : List Word) (k : ℕ) where
+  pub next_word : {g : Head} (d : Word) → k < length ws → g ≡ or_word s at h (get_or ws k d) (opening (get_or ws k d)) → first_of s at g (drop (k + 1) ws) ≡ first_of s at h (drop k ws)
+  unfolding first_of
+  next_word d l e = rw (drop-cons ws k d, e, add-one k)
+
+  pub last_word : length ws ≤ k → h ≡ first_of s at h (drop k ws)
+  unfolding first_of
+  last_word l = rw (drop_of_length-le ws l)

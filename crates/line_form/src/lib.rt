@@ -1,9 +1,9 @@
 // The parts of a line at an index: a form's opening word, bytes, and a list of numbers. Each gives the index after it, past the end of
-// the line where it does not stand there.
+// the line where it does not stand there: `word_at`, `head_at` and `listed_at` of specs/ have it so, and what follows is read from there.
 #![tactic(auto)]
 
-ghost use Rattle.std.specs.Prelude.{◌≡◌, ◌-◌, drop, set};
-ghost use Rattle.line_form.specs.Reading.{starts, word_at, or_word, head_at};
+ghost use Rattle.std.specs.Prelude.{◌≡◌, drop, set};
+ghost use Rattle.line_form.specs.Reading.{opening, starts, word_at, or_word, head_at};
 ghost use Rattle.line_form.specs.List.{no_numbers};
 ghost use Rattle.line_form.specs.ListAt.{listed_at};
 
@@ -22,6 +22,17 @@ pub enum Word {
     End,
 }
 
+const WORDS: [Word; 8] = [
+    Word::Problem,
+    Word::Scale,
+    Word::Row,
+    Word::Right,
+    Word::Guess,
+    Word::Inverse,
+    Word::Weight,
+    Word::End,
+];
+
 // A form's word, and the index after its opening.
 #[derive(Clone, Copy)]
 pub struct Head {
@@ -29,7 +40,8 @@ pub struct Head {
     pub next: usize,
 }
 
-// The numbers of a list: how many, whether all of them are in their range, and the first 32 of them.
+// The numbers of a list: how many, whether all of them are in their range, and the first 32 of them. `numbers_of` of specs/List.antt has these three, and
+// nothing is allocated.
 #[derive(Clone, Copy)]
 pub struct Numbers {
     pub count: usize,
@@ -44,29 +56,11 @@ pub struct Listed {
     pub next: usize,
 }
 
-// How many bytes there are from an index on.
-fn left_from(n: usize, at: usize) -> usize
-    ensures { result ≡ n - at }
-{
-    if at < n { n - at } else { 0 }
-}
-
 // Whether the bytes from an index on start with a word.
 fn has_word(s: &[u8], at: usize, word: &[u8]) -> bool
     ensures { result ≡ starts word.now (drop at s.now) }
 {
-    let left = left_from(s.len(), at);
-    let mut i = 0;
-    while i < word.len() {
-        if left <= i {
-            return false;
-        }
-        if s[at + i] != word[i] {
-            return false;
-        }
-        i += 1;
-    }
-    true
+    s[at.min(s.len())..].starts_with(word)
 }
 
 // The index after a word; past the end of the line where the word does not stand there.
@@ -80,17 +74,32 @@ pub fn word_at(s: &[u8], at: usize, word: &[u8]) -> usize
     }
 }
 
-// The head, or this word where the head is none.
-fn or_word(s: &[u8], at: usize, head: Head, word: Word, opening: &[u8]) -> Head
-    ensures { result ≡ or_word s.now at head word opening.now }
+// How a form of the word starts.
+fn opening(word: Word) -> &'static [u8]
+    ensures { result.now ≡ opening word }
 {
-    let next = head.next;
-    if next <= s.len() {
+    match word {
+        Word::Problem => b"(problem ",
+        Word::Scale => b"(scale ",
+        Word::Row => b"(row ",
+        Word::Right => b"(right ",
+        Word::Guess => b"(guess ",
+        Word::Inverse => b"(inverse ",
+        Word::Weight => b"(weight ",
+        Word::End => b"(end",
+    }
+}
+
+// The head, or this word where the head is none.
+fn or_word(s: &[u8], at: usize, head: Head, word: Word) -> Head
+    ensures { result ≡ or_word s.now at head word (opening word) }
+{
+    if head.next <= s.len() {
         return head;
     }
     Head {
         word,
-        next: word_at(s, at, opening),
+        next: word_at(s, at, opening(word)),
     }
 }
 
@@ -98,18 +107,14 @@ fn or_word(s: &[u8], at: usize, head: Head, word: Word, opening: &[u8]) -> Head
 pub fn head_at(s: &[u8], at: usize) -> Head
     ensures { result ≡ head_at s.now at }
 {
-    let none = Head {
+    let mut head = Head {
         word: Word::End,
         next: s.len() + 1,
     };
-    let h = or_word(s, at, none, Word::Problem, b"(problem ");
-    let h = or_word(s, at, h, Word::Scale, b"(scale ");
-    let h = or_word(s, at, h, Word::Row, b"(row ");
-    let h = or_word(s, at, h, Word::Right, b"(right ");
-    let h = or_word(s, at, h, Word::Guess, b"(guess ");
-    let h = or_word(s, at, h, Word::Inverse, b"(inverse ");
-    let h = or_word(s, at, h, Word::Weight, b"(weight ");
-    or_word(s, at, h, Word::End, b"(end")
+    for word in WORDS {
+        head = or_word(s, at, head, word);
+    }
+    head
 }
 
 // What stands beside a form that has no list.
@@ -133,6 +138,7 @@ fn put(values: &mut [i64], n: usize, v: i64)
 }
 
 // The numbers from an index on, single spaces between them, and the index after the last. Past the 32nd they are only counted and tested.
+// The count is a part of the answer, which a `for` would hold beside an index of its own.
 pub fn list_at(s: &[u8], at: usize, kind: Kind) -> Listed
     ensures { result ≡ listed_at kind s.now at }
 {
@@ -142,13 +148,10 @@ pub fn list_at(s: &[u8], at: usize, kind: Kind) -> Listed
     let mut inside = rules::is_in_range(kind, first.value);
     let mut next = first.next;
     let mut count = 1;
-    while count <= s.len() {
-        if line_numeral::byte_at(s, next) != b' ' {
-            break;
-        }
+    while count <= s.len() && line_numeral::byte_at(s, next) == b' ' {
         let n = line_numeral::number_at(s, next + 1);
         put(&mut values, count, n.value);
-        inside = inside & rules::is_in_range(kind, n.value);
+        inside &= rules::is_in_range(kind, n.value);
         next = n.next;
         count += 1;
     }

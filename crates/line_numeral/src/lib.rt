@@ -1,7 +1,7 @@
 // A number at a place of a line (01: "A number is 0, or digits without a leading 0, with a minus before it where negative; −0 is no number").
 #![tactic(auto)]
 
-ghost use Rattle.std.specs.Prelude.{◌≡◌, ◌≤◌, length, drop, pos, neg_ℤ, slice_index};
+ghost use Rattle.std.specs.Prelude.{◌≡◌, ◌<◌, ◌≤◌, SomeIff, length, drop, pos, neg_ℤ, slice_index};
 ghost use Rattle.line_numeral.specs.Numeral.{digit_of, lost, run_at, magnitude_at, number_at, positive_of, negative_of, cap_at, cap_magnitude};
 ghost use Rattle.line_numeral.specs.Capped.{capped_magnitude, capped_number};
 
@@ -14,7 +14,8 @@ struct Magnitude {
     next: usize,
 }
 
-// A number, and the index after it.
+// A number, and the index after it. The index is past the end where no number stands: `number_at` of specs/Numeral.antt has it so, and what follows
+// is read from there.
 #[derive(Clone, Copy)]
 pub struct Number {
     pub value: i64,
@@ -25,22 +26,24 @@ pub struct Number {
 pub fn byte_at(s: &[u8], at: usize) -> u8
     ensures { result ≡ slice_index s.now at }
 {
-    if at < s.len() { s[at] } else { 0 }
+    s.get(at).copied().unwrap_or(0)
 }
 
-// The value of a decimal digit; 10 for any other byte.
-fn digit(b: u8) -> u64
-    ensures { (result ≡ digit_of b) × (result ≤ 10) }
+// The value of a decimal digit; no other byte has one.
+fn digit(b: u8) -> Option<u64>
+    ensures { SomeIff result (digit_of b < 10) (digit_of b) }
 {
-    let d = std::num::wrapping_sub_u8(b, b'0');
-    if d < 10 { d as u64 } else { 10 }
+    if !b.is_ascii_digit() {
+        return None;
+    }
+    Some(u64::from(b - b'0'))
 }
 
 // At most 2^40, so that no further digit wraps.
 fn cap_magnitude(v: u64) -> u64
     ensures { (result ≡ cap_magnitude v) × (result ≤ cap_at) }
 {
-    if v < CAP { v } else { CAP }
+    v.min(CAP)
 }
 
 // All digits from an index on.
@@ -48,37 +51,31 @@ fn run_at(s: &[u8], at: usize) -> Magnitude
     requires { at ≤ length s.now }
     ensures { result ≡ capped_magnitude (run_at 0 at (drop at s.now)) }
 {
-    let mut v: u64 = 0;
-    let mut i = at;
-    while i < s.len() {
-        let d = digit(s[i]);
-        if 10 <= d {
-            break;
-        }
-        v = cap_magnitude(v * 10 + d);
-        i += 1;
+    let mut value = 0;
+    let mut next = at;
+    for b in &s[at..] {
+        let Some(d) = digit(*b) else { break };
+        value = cap_magnitude(value * 10 + d);
+        next += 1;
     }
-    Magnitude { value: v, next: i }
+    Magnitude { value, next }
 }
 
 // 0, or digits without a leading 0.
 fn magnitude_at(s: &[u8], at: usize) -> Magnitude
     ensures { (result ≡ capped_magnitude (magnitude_at s.now at)) × (result.value ≤ cap_at) }
 {
-    let b = byte_at(s, at);
-    if b == b'0' {
-        return Magnitude {
+    match byte_at(s, at) {
+        b'0' => Magnitude {
             value: 0,
             next: at + 1,
-        };
-    }
-    if 10 <= digit(b) {
-        return Magnitude {
+        },
+        b'1'..=b'9' => run_at(s, at),
+        _ => Magnitude {
             value: 0,
             next: s.len() + 1,
-        };
+        },
     }
-    run_at(s, at)
 }
 
 fn plus(v: u64) -> i64
@@ -92,7 +89,7 @@ fn minus(v: u64) -> i64
     requires { v ≤ cap_at }
     ensures { result ≡ neg_ℤ (pos v) }
 {
-    0 - (v as i64)
+    -(v as i64)
 }
 
 fn positive(z: Magnitude) -> Number

@@ -1,14 +1,12 @@
 -- The parts that the code has read make the whole line.
---   beside_list, beside_none — the numbers beside a form, where it has a list and where it has none
---   decided_none, decided_form — the two ends of `decide`
 --   line_read — what is decided from the parts is what the line is by its reading
-use mathlib.Core.Path.{◌≡◌, refl, sym, ◌∙◌}
+use mathlib.Core.Path.{◌≡◌, refl}
 use mathlib.Core.Bool.{Bool, true, false, cond}
 use mathlib.Core.List.{List, [], ◌∷◌}
 use mathlib.Core.Option.{none, some}
 use Prim.Native.Nat.{ℕ, suc}
 use native.Mathlib.Omega.{arith}
-use borrow.Author.Tests.{eq-eqb, ne_eqb}
+use borrow.Author.Tests.{ne_eqb}
 use lib.Dec.{eqb}
 use lib.IntN.{ℤ}
 use lib.ListN.{length}
@@ -17,20 +15,16 @@ use Rattle.line_numeral.specs.Capped.{capped_number}
 use Rattle.line_numeral.specs.declared.Number.{Number}
 use Rattle.rules.specs.declared.Kind.{Kind}
 use Rattle.rules.specs.declared.Refusal.TheVariants.{NoForm}
-use Rattle.line_parts.specs.declared.Answer.TheVariants as answer
-use Rattle.line_parts.specs.declared.CappedForm.{CappedForm}
 use Rattle.line_form.specs.declared.Head.{Head}
-use Rattle.line_parts.specs.declared.Line.{Line}
 use Rattle.line_form.specs.declared.Listed.{Listed}
-use Rattle.line_form.specs.declared.Numbers.{Numbers}
 use Rattle.line_form.specs.declared.Word.{Word}
 use Rattle.line_form.specs.declared.Word.TheVariants.{Problem, Scale, Row, Right, Guess, Inverse, Weight, End}
 use Rattle.line_form.specs.Form.{Form, bytes}
 use Rattle.line_form.specs.Reading.{word_at, head_at, end_of, form_of, form_at, reading}
-use Rattle.line_form.specs.List.{first_values, no_numbers, numbers_of}
+use Rattle.line_form.specs.List.{first_values, numbers_of}
 use Rattle.line_form.specs.ListAt.{listed_at}
 use Rattle.line_parts.specs.Line.{capped_form, numbers_in, refused, of_reading}
-use Rattle.line_parts.specs.Parts.{kind_of, last_in, capped_right, capped_of, has_list, beside_of, decided}
+use Rattle.line_parts.specs.Parts.{kind_of, last_in, capped_right, capped_of, beside_of, decided}
 
 right_form : (k : Kind) (i v a : ℤ) (zs : List ℤ) → capped_right (cap i) (cap v) (numbers_of k (a ∷ zs)) ≡ capped_form (form_of Right i v a zs)
 unfolding numbers_of first_values
@@ -57,23 +51,6 @@ beside_form Guess i v a zs = refl
 beside_form Inverse i v a zs = refl
 beside_form Weight i v a zs = refl
 beside_form End i v a zs = refl
-
-pub beside_list : (w : Word) (l : Numbers) {b : Bool} → b ≡ has_list w → b ≡ true → l ≡ beside_of w l
-beside_list w l e t = rw (sym e ∙ t)
-
-pub beside_none : (w : Word) (l : Numbers) {n : Numbers} {b : Bool} → b ≡ has_list w → b ≡ false → n ≡ no_numbers → n ≡ beside_of w l
-beside_none w l e f z = rw (sym e ∙ f) z
-
--- ---- the two ends of `decide`
-module _ (s : List ℕ) (h : Head) (i v : Number) (l : Listed) (e : ℕ) where
-  pub decided_none : {r : Line} → (e ≡ length s → ⊥) → r ≡ refused NoForm → r ≡ decided s h i v l e
-  unfolding decided
-  decided_none n d = rw (ne_eqb e (length s) n) d
-
-  pub decided_form : {f : CappedForm} {n : Numbers} {x y : ℤ} → e ≡ length s → x ≡ i.value → y ≡ v.value → f ≡ capped_of h.word x y l.numbers → n ≡ beside_of h.word l.numbers
-      → record { answer = answer.Form f; numbers = n } ≡ decided s h i v l e
-  unfolding decided
-  decided_form z a b d g = rw (eq-eqb e (length s) z, d, a, b, g)
 
 of_cond : (t : Bool) (f : Form) → cond t (of_reading (some f)) (refused NoForm) ≡ of_reading (cond t (some f) none)
 of_cond true f = refl

@@ -4,16 +4,13 @@
 --   refused r    — the line that is refused with r;  of_reading o — what a line is by its reading: 2 where it is no form
 --   line_of s     — what the line s is: 1 above 320 bytes, else by its reading
 --   line_code a — 01's number for an answer; nothing where it is a form
-use Rattle.std.specs.Prelude.{cond, List, [], ◌∷◌, ℕ, ltb, pos, length}
+use Rattle.std.specs.Prelude.{cond, List, [], ◌∷◌, ℕ, ltb, pos, length, Result, Ok, Err}
 use Rattle.std.proofs.Math.Option.{Option, none, some}
 use Rattle.line_numeral.specs.Numeral.{cap}
-use Rattle.rules.specs.Refusal.{code}
+use Rattle.rules.specs.Refusal.{number_of, values_of}
 use Rattle.rules.specs.declared.Kind.TheVariants as kind
-use Rattle.rules.specs.declared.Outcome.TheVariants.{Refused}
 use Rattle.rules.specs.declared.Refusal.{Refusal}
 use Rattle.rules.specs.declared.Refusal.TheVariants.{TooLong, NoForm}
-use Rattle.line_parts.specs.declared.Answer.{Answer}
-use Rattle.line_parts.specs.declared.Answer.TheVariants as answer
 use Rattle.line_parts.specs.declared.CappedForm.{CappedForm}
 use Rattle.line_parts.specs.declared.CappedForm.TheVariants.{Problem, Scale, Row, Right, Guess, Inverse, Weight, End}
 use Rattle.line_parts.specs.declared.Line.{Line}
@@ -45,15 +42,15 @@ numbers_in (weight i w) = no_numbers
 numbers_in end = no_numbers
 
 abbrev pub refused : Refusal → Line
-refused r = record { answer = answer.Refused r; numbers = no_numbers }
+refused r = record { answer = Err r; numbers = no_numbers }
 
 abbrev pub of_reading : Option Form → Line
 of_reading none = refused NoForm
-of_reading (some f) = record { answer = answer.Form (capped_form f); numbers = numbers_in f }
+of_reading (some f) = record { answer = Ok (capped_form f); numbers = numbers_in f }
 
 unfoldable pub line_of : List ℕ → Line
 line_of s = cond (ltb 320 (length s)) (refused TooLong) (of_reading (reading s))
 
-abbrev pub line_code : Answer → List ℕ
-line_code (answer.Form f) = []
-line_code (answer.Refused r) = code (Refused r)
+abbrev pub line_code : Result CappedForm Refusal → List ℕ
+line_code (Ok f) = []
+line_code (Err r) = number_of r ∷ values_of r

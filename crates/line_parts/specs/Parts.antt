@@ -6,13 +6,12 @@
 --   capped_of w i v l — the form of the word w with the number i and a second one, or a list
 --   has_list w      — whether the numbers of its list stand beside it;  beside_of w l — the numbers beside it
 --   decided s ..   — what the line s is by its reading, from its head, a first number, a second one, a list, and the place after its last bracket
-use Rattle.std.specs.Prelude.{Bool, true, false, cond, List, ℕ, eqb, ℤ, pos, length, get_or}
+use Rattle.std.specs.Prelude.{Bool, true, false, cond, List, ℕ, eqb, ℤ, pos, length, get_or, Ok}
 use Rattle.line_numeral.specs.Numeral.{lost}
 use Rattle.line_numeral.specs.declared.Number.{Number}
 use Rattle.rules.specs.declared.Kind.{Kind}
 use Rattle.rules.specs.declared.Kind.TheVariants as kind
 use Rattle.rules.specs.declared.Refusal.TheVariants.{NoForm}
-use Rattle.line_parts.specs.declared.Answer.TheVariants as answer
 use Rattle.line_parts.specs.declared.CappedForm.{CappedForm}
 use Rattle.line_parts.specs.declared.CappedForm.TheVariants as capped
 use Rattle.line_parts.specs.declared.Line.{Line}
@@ -67,4 +66,4 @@ abbrev pub beside_of : Word → Numbers → Numbers
 beside_of w l = cond (has_list w) l no_numbers
 
 unfoldable pub decided : List ℕ → Head → Number → Number → Listed → ℕ → Line
-decided s h i v l e = cond (eqb e (length s)) (record { answer = answer.Form (capped_of h.word i.value v.value l.numbers); numbers = beside_of h.word l.numbers }) (refused NoForm)
+decided s h i v l e = cond (eqb e (length s)) (record { answer = Ok (capped_of h.word i.value v.value l.numbers); numbers = beside_of h.word l.numbers }) (refused NoForm)

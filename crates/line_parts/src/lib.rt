@@ -12,8 +12,8 @@ use line_form::{Head, Listed, Numbers, Word};
 use line_numeral::Number;
 use rules::{Kind, Refusal};
 
-// A form's numbers, ±2^40 where they are larger in absolute value; i comes first and is kept apart. The numbers of a row stand beside it. The third of a right side is
-// its tolerance, 0 where it has none.
+// A form's numbers, ±2^40 where they are larger in absolute value; i comes first and is kept apart. The numbers of a row stand beside it. The third
+// of a right side is its tolerance, 0 where it has none.
 #[derive(Clone, Copy)]
 pub enum CappedForm {
     Problem(i64),
@@ -26,17 +26,11 @@ pub enum CappedForm {
     End,
 }
 
-// The form, or 1 or 2 (01's numbers by `line_code` of specs/Line.antt).
-#[derive(Clone, Copy)]
-pub enum Answer {
-    Form(CappedForm),
-    Refused(Refusal),
-}
-
-// What a line is. Where it is neither a row nor a row of the inverse, there are no numbers beside the answer.
+// What a line is: its form, or 1 or 2 (01's numbers by `line_code` of specs/Line.antt). Where it is neither a row nor a row of the inverse, there are no
+// numbers beside the answer.
 #[derive(Clone, Copy)]
 pub struct Line {
-    pub answer: Answer,
+    pub answer: Result<CappedForm, Refusal>,
     pub numbers: Numbers,
 }
 
@@ -45,14 +39,8 @@ pub fn kind_of(word: Word) -> Kind
     ensures { result ≡ kind_of word }
 {
     match word {
-        Word::Problem => Kind::Matrix,
-        Word::Scale => Kind::Matrix,
-        Word::Row => Kind::Matrix,
-        Word::Right => Kind::Matrix,
-        Word::Guess => Kind::Matrix,
         Word::Inverse => Kind::Inverse,
-        Word::Weight => Kind::Matrix,
-        Word::End => Kind::Matrix,
+        _ => Kind::Matrix,
     }
 }
 
@@ -75,13 +63,11 @@ pub fn close_at(line: &[u8], at: usize) -> usize
 fn right_last(count: usize, second: usize, list: usize, other: usize) -> usize
     ensures { result ≡ right_last count second list other }
 {
-    if count == 1 {
-        return second;
+    match count {
+        1 => second,
+        2 => list,
+        _ => other,
     }
-    if count == 2 {
-        return list;
-    }
-    other
 }
 
 // The index of a form's last bracket, from the indices after its opening, its first number, a second number, a list with its bracket, and that of a right form.
@@ -90,12 +76,9 @@ fn last_of(word: Word, head: usize, first: usize, second: usize, list: usize, ri
 {
     match word {
         Word::Problem => first,
-        Word::Scale => second,
-        Word::Row => list,
+        Word::Scale | Word::Guess | Word::Weight => second,
+        Word::Row | Word::Inverse => list,
         Word::Right => right,
-        Word::Guess => second,
-        Word::Inverse => list,
-        Word::Weight => second,
         Word::End => head,
     }
 }
@@ -104,10 +87,9 @@ fn last_of(word: Word, head: usize, first: usize, second: usize, list: usize, ri
 pub fn last_at(line: &[u8], head: Head, first: Number, second: Number, list: Listed) -> usize
     ensures { result ≡ last_in line.now head first second list }
 {
-    let word = head.word;
     let close = close_at(line, list.next);
     let right = right_last(list.numbers.count, second.next, close, line.len() + 1);
-    last_of(word, head.next, first.next, second.next, close, right)
+    last_of(head.word, head.next, first.next, second.next, close, right)
 }
 
 // A right form: b alone, or b and its tolerance in a list.
@@ -117,10 +99,7 @@ fn right_of(first: i64, second: i64, list: Numbers) -> CappedForm
     if list.count == 1 {
         return CappedForm::Right(first, second, 0);
     }
-    let values = list.values;
-    let b = values[0];
-    let d = values[1];
-    CappedForm::Right(first, b, d)
+    CappedForm::Right(first, list.values[0], list.values[1])
 }
 
 fn form_of(word: Word, first: i64, second: i64, list: Numbers) -> CappedForm
@@ -142,28 +121,20 @@ fn form_of(word: Word, first: i64, second: i64, list: Numbers) -> CappedForm
 fn has_list(word: Word) -> bool
     ensures { result ≡ has_list word }
 {
-    match word {
-        Word::Problem => false,
-        Word::Scale => false,
-        Word::Row => true,
-        Word::Right => false,
-        Word::Guess => false,
-        Word::Inverse => true,
-        Word::Weight => false,
-        Word::End => false,
-    }
+    matches!(word, Word::Row | Word::Inverse)
 }
 
 pub fn refuse(refusal: Refusal) -> Line
     ensures { result ≡ refused refusal }
 {
     Line {
-        answer: Answer::Refused(refusal),
+        answer: Err(refusal),
         numbers: line_form::no_numbers(),
     }
 }
 
 // What a line is, from its parts and the index after its last bracket: 2 where it does not end there, else the form of its word.
+#[tactic(auto, unfolding(crate::specs::Parts::decided))]
 pub fn decide(
     line: &[u8],
     head: Head,
@@ -177,11 +148,12 @@ pub fn decide(
     if end != line.len() {
         return refuse(Refusal::NoForm);
     }
-    let word = head.word;
-    let numbers = list.numbers;
-    let answer = Answer::Form(form_of(word, first.value, second.value, numbers));
-    if has_list(word) {
-        return Line { answer, numbers };
+    let answer = Ok(form_of(head.word, first.value, second.value, list.numbers));
+    if has_list(head.word) {
+        return Line {
+            answer,
+            numbers: list.numbers,
+        };
     }
     Line {
         answer,

@@ -12,7 +12,7 @@ use native.Mathlib.Omega.{arith}
 use lib.ListN.{length, drop, replicate}
 use lib.Seq.{sets-eq, take_at, drop_at}
 use Rattle.rules.specs.Refusal.{code, number_of, values_of}
-use Rattle.rules.specs.declared.Outcome.TheVariants.{Accepted, Refused}
+use Rattle.std.specs.Prelude.{Ok, Err}
 use Rattle.rules.specs.declared.Refusal.{Refusal}
 use Rattle.check_spec.specs.Order.{checked_of}
 use Rattle.check_spec.specs.Input.{Input, short}
@@ -124,13 +124,13 @@ module _ (file : List ℕ) {old new : Lists} {r : LinesTaken} (lent : LinesTaken
   read : LinesTakenAs file zeros r new
   read = rw z at lent
 
-  pub refusal_answered : {o p : List ℕ} {a : FileAnswer} (x : Refusal) → r.outcome ≡ Refused x →
+  pub refusal_answered : {o p : List ℕ} {a : FileAnswer} (x : Refusal) → r.outcome ≡ Err x →
       Answered (printed r.line (number_of x ∷ values_of x)) (refused_of (printed r.line (number_of x ∷ values_of x))) o p a → Answered (answer_of file) (listing_of file) o p a
   refusal_answered x e =
       let q : answer_of file ≡ printed r.line (number_of x ∷ values_of x) = rw read.line (answer_refused file (sym read.says ∙ ap code e)) in
       same_answer (sym q) (sym (listing_from file q))
 
-  pub check_answered : {o p : List ℕ} {a : FileAnswer} → r.outcome ≡ Accepted → Answered (code_of (state_with r.loader new)) (shown_of (state_with r.loader new)) o p a → Answered (answer_of file) (listing_of file) o p a
+  pub check_answered : {o p : List ℕ} {a : FileAnswer} → r.outcome ≡ Ok tt → Answered (code_of (state_with r.loader new)) (shown_of (state_with r.loader new)) o p a → Answered (answer_of file) (listing_of file) o p a
   check_answered {o} {p} {a} e =
       let quiet = sym read.says ∙ ap code e in
       let c = as_checked file quiet in

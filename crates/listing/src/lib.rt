@@ -7,9 +7,8 @@ ghost use Rattle.listing.specs.Listing.{ListedAs, AnsweredAs};
 use file::take_lines;
 use file_check::put_checked;
 use listing_refusal::{FileAnswer, put_refusal};
-use rules::Outcome;
 
-// The listing of a file, from the start of the buffer on, and its answer in numbers.
+// The listing of a file, from the start of the buffer on, and its answer in numbers. The six lists are lent where they stand: `read_file` would hand them on by value.
 pub fn answer_file(file: &[u8], out: &mut [u8; 32768]) -> FileAnswer
     ensures { AnsweredAs file.now out.old out.new result }
 {
@@ -28,15 +27,18 @@ pub fn answer_file(file: &[u8], out: &mut [u8; 32768]) -> FileAnswer
         &mut inverse,
         &mut weights,
     );
-    let outcome = taken.outcome;
-    match outcome {
-        Outcome::Refused(refusal) => put_refusal(out, refusal, taken.line),
-        Outcome::Accepted => {
-            let loader = taken.loader;
-            put_checked(
-                out, loader, &matrix, &right, &tolerance, &guess, &inverse, &weights,
-            )
-        }
+    match taken.outcome {
+        Err(refusal) => put_refusal(out, refusal, taken.line),
+        Ok(()) => put_checked(
+            out,
+            taken.loader,
+            &matrix,
+            &right,
+            &tolerance,
+            &guess,
+            &inverse,
+            &weights,
+        ),
     }
 }
 
@@ -44,6 +46,5 @@ pub fn answer_file(file: &[u8], out: &mut [u8; 32768]) -> FileAnswer
 pub fn listing(file: &[u8], out: &mut [u8; 32768]) -> usize
     ensures { ListedAs file.now out.old out.new result }
 {
-    let answer = answer_file(file, out);
-    answer.length
+    answer_file(file, out).length
 }

@@ -1,13 +1,11 @@
 -- The line of a refusal, by its cases.
---   reply_first — what a refusal says, from its parts
---   few_shown — at most two numbers stand in the inner brackets
 --   answered  — the line is that of the refusal: one number or two of a pair in the inner brackets
 --   same_answer — the same answer in other words
 use mathlib.Core.Path.{◌≡◌, refl, ap, ◌∙◌}
 use mathlib.Core.List.{List, [], ◌∷◌}
-use Prim.Native.Nat.{ℕ, ◌+◌, ◌≤◌}
+use Prim.Native.Nat.{ℕ, ◌+◌}
 use native.Mathlib.Omega.{arith}
-use lib.ListN.{length, get_or}
+use lib.ListN.{get_or}
 use Rattle.line_form.specs.Form.{bytes}
 use Rattle.rules.specs.Refusal.{number_of, values_of}
 use Rattle.rules.specs.declared.Refusal.{Refusal}
@@ -17,37 +15,13 @@ use Rattle.listing_text.proofs.Wrote.{wider, called}
 use Rattle.listing_text.specs.Line.{each, list_line}
 use Rattle.listing_refusal.specs.declared.Reply.{Reply}
 use Rattle.listing_refusal.specs.declared.FileAnswer.{FileAnswer}
-use Rattle.listing_refusal.specs.Refused.{shown, printed, refused_of}
+use Rattle.listing_refusal.specs.Refused.{printed, refused_of}
 use Rattle.listing_refusal.specs.Reply.{reply_of}
 use Rattle.listing_refusal.specs.Answered.{Answered}
 
 -- the numbers of its line
 abbrev printed_refusal : ℕ → Refusal → List ℕ
 printed_refusal line r = printed line (number_of r ∷ values_of r)
-
-module _ (line k : ℕ) where
-  pub reply_first : (vs : List ℕ) {n c a b : ℕ} → n ≡ k → c ≡ length (shown 0 vs) → a ≡ get_or (shown line vs) 0 0 → b ≡ get_or vs 1 0 →
-      record { number = n; count = c; first = a; second = b } ≡ reply_of (printed line (k ∷ vs))
-  reply_first [] en ec ea eb = rw (en, ec, ea, eb)
-  reply_first (v ∷ vs) en ec ea eb = rw (en, ec, ea, eb)
-
-few_numbers : (line : ℕ) (r : Refusal) → (reply_of (printed_refusal line r)).count ≤ 2
-few_numbers line TooLong = omega arith
-few_numbers line NoForm = omega arith
-few_numbers line OutOfRange = omega arith
-few_numbers line WrongCount = omega arith
-few_numbers line (Margin row) = omega arith
-few_numbers line (Residual row) = omega arith
-few_numbers line (InverseResidual column row) = omega arith
-few_numbers line TooShort = omega arith
-few_numbers line TooEarly = omega arith
-few_numbers line Repeated = omega arith
-few_numbers line (Missing count) = omega arith
-few_numbers line AfterEnd = omega arith
-few_numbers line NotEnded = omega arith
-
-pub few_shown : (line : ℕ) (r : Refusal) {a : Reply} → a ≡ reply_of (printed_refusal line r) → a.count ≤ 2
-few_shown line r e = rw e (few_numbers line r)
 
 abbrev written_reply : Reply → List ℕ
 written_reply r = list_line (bytes "(refused ") r.number r.count (λ (j : ℕ). get_or (r.first ∷ r.second ∷ []) (0 + j) 0)

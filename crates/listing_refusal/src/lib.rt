@@ -1,9 +1,9 @@
 // The answer to a refused file: in numbers, and as one line written into a buffer.
 #![tactic(auto)]
 
-ghost use Rattle.std.specs.Prelude.{◌≡◌, [], ◌∷◌, ◌≤◌, length, get_or};
+ghost use Rattle.std.specs.Prelude.{◌≡◌, [], ◌∷◌, ◌≤◌, length};
 ghost use Rattle.rules.specs.Refusal.{number_of, values_of};
-ghost use Rattle.listing_refusal.specs.Refused.{shown, printed, refused_of};
+ghost use Rattle.listing_refusal.specs.Refused.{printed, refused_of};
 ghost use Rattle.listing_refusal.specs.Reply.{reply_of};
 ghost use Rattle.listing_refusal.specs.Answered.{Answered};
 
@@ -11,6 +11,7 @@ use listing_text::put_list;
 use rules::Refusal;
 
 // The answer in numbers: 01's number of a refusal, how many numbers stand in the inner brackets, and these; 0 where there is none.
+// `reply_of` of specs/Reply.antt has these four, which C is given.
 #[derive(Clone, Copy)]
 pub struct Reply {
     pub number: u32,
@@ -46,78 +47,23 @@ fn number_of(refusal: Refusal) -> u32
     }
 }
 
-// The first number in the inner brackets: of a refusal that gives its number alone, the number of the line.
-fn first_of(refusal: Refusal, line: u64) -> u64
-    ensures { result ≡ get_or (shown line (values_of refusal)) 0 0 }
-{
-    match refusal {
-        Refusal::TooLong => line,
-        Refusal::NoForm => line,
-        Refusal::OutOfRange => line,
-        Refusal::WrongCount => line,
-        Refusal::Margin(row) => row as u64,
-        Refusal::Residual(row) => row as u64,
-        Refusal::InverseResidual(column, _) => column as u64,
-        Refusal::TooShort => line,
-        Refusal::TooEarly => line,
-        Refusal::Repeated => line,
-        Refusal::Missing(count) => count as u64,
-        Refusal::AfterEnd => line,
-        Refusal::NotEnded => line,
-    }
-}
-
-// The second number in the inner brackets, where there is one.
-fn second_of(refusal: Refusal) -> u64
-    ensures { result ≡ get_or (values_of refusal) 1 0 }
-{
-    match refusal {
-        Refusal::TooLong => 0,
-        Refusal::NoForm => 0,
-        Refusal::OutOfRange => 0,
-        Refusal::WrongCount => 0,
-        Refusal::Margin(_) => 0,
-        Refusal::Residual(_) => 0,
-        Refusal::InverseResidual(_, row) => row as u64,
-        Refusal::TooShort => 0,
-        Refusal::TooEarly => 0,
-        Refusal::Repeated => 0,
-        Refusal::Missing(_) => 0,
-        Refusal::AfterEnd => 0,
-        Refusal::NotEnded => 0,
-    }
-}
-
-// How many numbers stand there.
-fn count_of(refusal: Refusal) -> usize
-    ensures { result ≡ length (shown 0 (values_of refusal)) }
-{
-    match refusal {
-        Refusal::TooLong => 1,
-        Refusal::NoForm => 1,
-        Refusal::OutOfRange => 1,
-        Refusal::WrongCount => 1,
-        Refusal::Margin(_) => 1,
-        Refusal::Residual(_) => 1,
-        Refusal::InverseResidual(_, _) => 2,
-        Refusal::TooShort => 1,
-        Refusal::TooEarly => 1,
-        Refusal::Repeated => 1,
-        Refusal::Missing(_) => 1,
-        Refusal::AfterEnd => 1,
-        Refusal::NotEnded => 1,
-    }
-}
-
 // What a refusal says; of one that gives its number alone, with the number of the line.
 pub fn reply_of(refusal: Refusal, line: u64) -> Reply
     ensures { result ≡ reply_of (printed line (number_of refusal ∷ values_of refusal)) }
 {
+    let number = number_of(refusal);
+    let (count, first, second) = match refusal {
+        Refusal::Margin(row) => (1, u64::from(row), 0),
+        Refusal::Residual(row) => (1, u64::from(row), 0),
+        Refusal::InverseResidual(column, row) => (2, u64::from(column), u64::from(row)),
+        Refusal::Missing(count) => (1, u64::from(count), 0),
+        _ => (1, line, 0),
+    };
     Reply {
-        number: number_of(refusal),
-        count: count_of(refusal),
-        first: first_of(refusal, line),
-        second: second_of(refusal),
+        number,
+        count,
+        first,
+        second,
     }
 }
 
@@ -145,7 +91,7 @@ pub fn put_refusal(out: &mut [u8], refusal: Refusal, line: u64) -> FileAnswer
         out,
         0,
         b"(refused ",
-        reply.number as u64,
+        u64::from(reply.number),
         &shown,
         0,
         reply.count,

@@ -4,7 +4,6 @@
 --   feed_one, each_one — texts with equal bytes have equal lines: of one line and the rest, and of a line for each row and the rest
 --   after_first, after_one — the numbers of a list after its first
 --   report_one — reports with equal bytes show the same
-use mathlib.Core.Bool.{true}
 use mathlib.Core.List.{List, [], ◌∷◌, ◌++◌, append-nil, append_assoc}
 use mathlib.Core.Path.{◌≡◌, refl, sym, ap, subst, ◌∙◌}
 use Prim.Native.Nat.{ℕ, zero, suc, ◌+◌, ◌<◌}

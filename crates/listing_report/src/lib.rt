@@ -7,9 +7,13 @@ ghost use Rattle.listing_text.specs.Wrote.{Wrote};
 ghost use Rattle.entry.specs.Entry.{entry_value, entry_bound};
 ghost use Rattle.listing_text.specs.Line.{each, pair_line};
 ghost use Rattle.listing_report.specs.Report.{bounds_line};
-ghost use Rattle.listing_report.specs.Ready.{Reportable, report_in, block_line, most_of};
+ghost use Rattle.listing_report.specs.ShownReport.{line_in};
+ghost use Rattle.listing_report.specs.Ready.{Reportable, report_in, most_of};
 
 use listing_text::{put_bytes, put_list, put_natural, put_pair};
+use shown_report::ShownReport;
+
+mod shown_report;
 
 // (entry i (V limit))
 fn put_entry(out: &mut [u8], at: usize, i: u64, x: i64, e: u64, s: u32) -> usize
@@ -21,7 +25,8 @@ fn put_entry(out: &mut [u8], at: usize, i: u64, x: i64, e: u64, s: u32) -> usize
     put_pair(out, at, b"(entry ", i, value, bound)
 }
 
-// The three blocks of a report, a line for each row.
+// The three blocks of a report, a line for each row. An enum and no closure: `line_in` says of a block which line is written, and a closure that writes
+// into the buffer would need that contract at each of its three calls.
 #[derive(Clone, Copy)]
 pub enum Block {
     Solution,
@@ -29,62 +34,41 @@ pub enum Block {
     Inverse,
 }
 
-// The line of row i in a block.
-fn put_line(
-    out: &mut [u8],
-    at: usize,
-    block: Block,
-    i: usize,
-    n: usize,
-    s: u32,
-    guess: &[i64],
-    solution_bounds: &[u64],
-    inverse_bounds: &[u64],
-) -> usize
-    requires reportable { Reportable n s guess.now solution_bounds.now inverse_bounds.now }
-    requires i_lt_n { (i < n) × (at + most_of block ≤ length out.old) }
-    ensures { Wrote (most_of block) out.old at
-        (block_line block n s guess.now solution_bounds.now inverse_bounds.now i) out.new result }
-{
-    let number = i as u64 + 1;
-    match block {
-        Block::Solution => put_pair(out, at, b"(solution ", number, guess[i], solution_bounds[i]),
-        Block::Entry => put_entry(out, at, number, guess[i], solution_bounds[i], s),
-        Block::Inverse => put_list(out, at, b"(inverse ", number, inverse_bounds, i * n, n),
+impl<'a> ShownReport<'a> {
+    // The line of row i in a block.
+    fn put_line(self, out: &mut [u8], at: usize, block: Block, i: usize) -> usize
+        requires { (i < self.n) × (at + most_of block ≤ length out.old) }
+        ensures { Wrote (most_of block) out.old at (line_in block self.entry i) out.new result }
+    {
+        let number = i as u64 + 1;
+        let x = self.guess[i];
+        let e = self.solution_bounds[i];
+        match block {
+            Block::Solution => put_pair(out, at, b"(solution ", number, x, e),
+            Block::Entry => put_entry(out, at, number, x, e, self.s),
+            Block::Inverse => put_list(
+                out,
+                at,
+                b"(inverse ",
+                number,
+                self.inverse_bounds,
+                i * self.n,
+                self.n,
+            ),
+        }
     }
-}
 
-// The lines of a block.
-fn put_lines(
-    out: &mut [u8],
-    at: usize,
-    block: Block,
-    n: usize,
-    s: u32,
-    guess: &[i64],
-    solution_bounds: &[u64],
-    inverse_bounds: &[u64],
-) -> usize
-    requires reportable { Reportable n s guess.now solution_bounds.now inverse_bounds.now }
-    requires block_in_bounds { at + n * most_of block ≤ length out.old }
-    ensures { Wrote (n * most_of block) out.old at
-        (each n (block_line block n s guess.now solution_bounds.now inverse_bounds.now)) out.new result }
-{
-    let mut index = at;
-    for i in 0..n {
-        index = put_line(
-            out,
-            index,
-            block,
-            i,
-            n,
-            s,
-            guess,
-            solution_bounds,
-            inverse_bounds,
-        );
+    // The lines of a block.
+    fn put_lines(self, out: &mut [u8], at: usize, block: Block) -> usize
+        requires { at + self.n * most_of block ≤ length out.old }
+        ensures { Wrote (self.entry.n * most_of block) out.old at (each self.entry.n (line_in block self.entry)) out.new result }
+    {
+        let mut index = at;
+        for i in 0..self.n {
+            index = self.put_line(out, index, block, i);
+        }
+        index
     }
-    index
 }
 
 // (bounds n)
@@ -111,36 +95,16 @@ pub fn put_report(
     ensures { Wrote 32768 out.old 0
         (report_in n s guess.now solution_bounds.now inverse_bounds.now) out.new result }
 {
+    let shown = ShownReport {
+        n,
+        s,
+        guess,
+        solution_bounds,
+        inverse_bounds,
+    };
     let a = put_bounds(out, 0, n as u64);
-    let b = put_lines(
-        out,
-        a,
-        Block::Solution,
-        n,
-        s,
-        guess,
-        solution_bounds,
-        inverse_bounds,
-    );
-    let c = put_lines(
-        out,
-        b,
-        Block::Entry,
-        n,
-        s,
-        guess,
-        solution_bounds,
-        inverse_bounds,
-    );
-    let d = put_lines(
-        out,
-        c,
-        Block::Inverse,
-        n,
-        s,
-        guess,
-        solution_bounds,
-        inverse_bounds,
-    );
+    let b = shown.put_lines(out, a, Block::Solution);
+    let c = shown.put_lines(out, b, Block::Entry);
+    let d = shown.put_lines(out, c, Block::Inverse);
     put_bytes(out, d, b"(end)\n")
 }

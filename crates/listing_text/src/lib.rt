@@ -1,21 +1,18 @@
 // Bytes, numbers and the lines of a listing put into a buffer at an index. Each function gives the index after what it wrote.
 #![tactic(auto)]
 
-ghost use Rattle.std.specs.Prelude.{◌+◌, ◌≤◌, ◌<◌, ◌^◌, ℕ, ◌*◌, nat_abs, length, get_or, ◌++◌};
+ghost use Rattle.std.specs.Prelude.{◌+◌, ◌≤◌, ◌<◌, ◌^◌, ℕ, ◌*◌, List, pos, nat_abs, length, slice_index_or, ◌++◌};
 ghost use Rattle.line_numeral.specs.Decimal.{decimal, numeral};
 ghost use Rattle.listing_text.specs.Wrote.{Wrote};
-ghost use Rattle.listing_text.specs.Line.{gap, numbers, line_opening, pair_line, list_line};
+ghost use Rattle.listing_text.specs.Line.{each, gap, line_opening, line_closing, pair_line};
 
 pub fn put_bytes(out: &mut [u8], at: usize, src: &[u8]) -> usize
     requires { at + length src.now ≤ length out.old }
     ensures { Wrote (length src.now) out.old at src.now out.new result }
 {
-    let mut i = 0;
-    while i < src.len() {
-        out[at + i] = src[i];
-        i += 1;
-    }
-    at + i
+    let end = at + src.len();
+    out[at..end].copy_from_slice(src);
+    end
 }
 
 // The digits of n, the highest first.
@@ -24,11 +21,11 @@ fn put_digits(out: &mut [u8], at: usize, n: u64) -> usize
     ensures { Wrote (length (decimal n)) out.old at (decimal n) out.new result }
 {
     if n < 10 {
-        out[at] = 48 + n as u8;
+        out[at] = b'0' + n as u8;
         return at + 1;
     }
     let last = put_digits(out, at, n / 10);
-    out[last] = 48 + (n % 10) as u8;
+    out[last] = b'0' + (n % 10) as u8;
     last + 1
 }
 
@@ -38,7 +35,7 @@ pub fn put_natural(out: &mut [u8], at: usize, n: u64) -> usize
     ensures { Wrote 20 out.old at (decimal n) out.new result }
 {
     if n < 10 {
-        out[at] = 48 + n as u8;
+        out[at] = b'0' + n as u8;
         return at + 1;
     }
     put_digits(out, at, n)
@@ -89,19 +86,59 @@ pub fn put_gap(out: &mut [u8], at: usize, j: usize) -> usize
     put_bytes(out, at, b" ")
 }
 
-// The number at index j of a list, and the space before it.
-fn put_item(out: &mut [u8], at: usize, j: usize, v: u64) -> usize
-    requires { at + 21 ≤ length out.old }
-    ensures { Wrote 21 out.old at (gap j ++ decimal v) out.new result }
-{
-    let a = put_gap(out, at, j);
-    put_natural(out, a, v)
+// A number of a list, as it is written.
+pub trait Numeral: Copy {
+    // What is read past a list's end.
+    ghost zero: { Self };
+
+    ghost text: { Self → List ℕ };
+
+    // Which numbers can be written.
+    ghost Fits: { Self → Type 0 };
+
+    fn put(self, out: &mut [u8], at: usize) -> usize
+        requires { Fits self × (at + 20 ≤ length out.old) }
+        ensures { Wrote 20 out.old at (text self) out.new result };
 }
 
-// The n numbers from an index of a list on, single spaces between them.
-fn put_numbers(out: &mut [u8], at: usize, values: &[u64], start: usize, n: usize) -> usize
-    requires { (n ≤ 32) × ((start + n ≤ length values.now) × (at + n * 21 ≤ length out.old)) }
-    ensures { Wrote (n * 21) out.old at (numbers n (λ (j : ℕ). get_or values.now (start + j) 0)) out.new result }
+impl Numeral for u64 {
+    ghost zero = { 0 };
+
+    ghost text = { decimal };
+
+    ghost Fits = { λ _. Unit };
+
+    fn put(self, out: &mut [u8], at: usize) -> usize {
+        put_natural(out, at, self)
+    }
+}
+
+impl Numeral for i64 {
+    ghost zero = { pos 0 };
+
+    ghost text = { numeral };
+
+    ghost Fits = { λ z. nat_abs z < 2 ^ 63 };
+
+    fn put(self, out: &mut [u8], at: usize) -> usize {
+        put_integer(out, at, self)
+    }
+}
+
+// The number at index j of a list, and the space before it.
+fn put_item<T: Numeral>(out: &mut [u8], at: usize, j: usize, v: T) -> usize
+    requires { T.Fits v × (at + 21 ≤ length out.old) }
+    ensures { Wrote 21 out.old at (gap j ++ T.text v) out.new result }
+{
+    let a = put_gap(out, at, j);
+    v.put(out, a)
+}
+
+// The n numbers from an index of a list on, single spaces between them. j is also the place in the line, and the contract of `put_list` names start and n.
+fn put_numbers<T: Numeral>(out: &mut [u8], at: usize, values: &[T], start: usize, n: usize) -> usize
+    requires room { (n ≤ 32) × ((start + n ≤ length values.now) × (at + n * 21 ≤ length out.old)) }
+    requires fit { (j : ℕ) → j < n → T.Fits (slice_index_or values.now (start + j) T.zero) }
+    ensures { Wrote (n * 21) out.old at (each n (λ (j : ℕ). gap j ++ T.text (slice_index_or values.now (start + j) T.zero))) out.new result }
 {
     let mut index = at;
     for j in 0..n {
@@ -111,18 +148,19 @@ fn put_numbers(out: &mut [u8], at: usize, values: &[u64], start: usize, n: usize
 }
 
 // (word i (v .. v))
-pub fn put_list(
+pub fn put_list<T: Numeral>(
     out: &mut [u8],
     at: usize,
     word: &[u8],
     i: u64,
-    values: &[u64],
+    values: &[T],
     start: usize,
     n: usize,
 ) -> usize
-    requires { (length word.now ≤ 10) × ((n ≤ 32) × ((start + n ≤ length values.now) × (at + 707 ≤ length out.old))) }
+    requires room { (length word.now ≤ 10) × ((n ≤ 32) × ((start + n ≤ length values.now) × (at + 707 ≤ length out.old))) }
+    requires fit { (j : ℕ) → j < n → T.Fits (slice_index_or values.now (start + j) T.zero) }
     ensures { Wrote 707 out.old at
-        (list_line word.now i n (λ (j : ℕ). get_or values.now (start + j) 0)) out.new result }
+        (line_opening word.now i ++ each n (λ (j : ℕ). gap j ++ T.text (slice_index_or values.now (start + j) T.zero)) ++ line_closing) out.new result }
 {
     let a = put_opening(out, at, word, i);
     let b = put_numbers(out, a, values, start, n);

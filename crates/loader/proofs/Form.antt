@@ -1,29 +1,22 @@
 -- Laws of a form as the code has it, from what is said of it to what it leaves.
 --   fits_of — where nothing is said its numbers are in their ranges;  narrow_by — and there is room for them
---   decided_refused, decided_accepted — what the code decides
 use mathlib.Core.Path.{◌≡◌, refl, sym, ap, ◌∙◌}
 use mathlib.Core.Bool.{Bool, true, false}
-use mathlib.Core.List.{List, [], ◌∷◌}
 use Prim.Native.Nat.{ℕ}
 use borrow.Author.Tests.{not-false}
-use lib.IntN.{ℤ}
-use Rattle.rules.specs.Refusal.{code, number_of, values_of}
-use Rattle.rules.specs.declared.Outcome.{Outcome}
-use Rattle.rules.specs.declared.Outcome.TheVariants.{Accepted, Refused}
-use Rattle.rules.specs.declared.Refusal.{Refusal}
+use Rattle.rules.specs.Refusal.{code, Outcome}
+use Rattle.std.specs.Prelude.{Ok}
 use Rattle.line_parts.specs.declared.CappedForm.{CappedForm}
 use Rattle.line_parts.specs.declared.CappedForm.TheVariants as form
-use Rattle.line_form.specs.declared.Numbers.{Numbers}
 use Rattle.loader_values.specs.Item.{placed}
-use Rattle.loader_values.specs.Capped.{item_in, outside_in, values_in}
+use Rattle.loader_values.specs.Capped.{item_in, outside_in}
 use Rattle.loader_values.specs.declared.Item.{Item}
 use Rattle.loader_values.specs.declared.Item.TheVariants.{Problem, Scale, Of, End}
 use Rattle.loader.specs.declared.Loader.{Loader}
 use Rattle.loader_lists.specs.Span.{Narrow}
 use Rattle.loader_progress.specs.Progress.{early, misplaced}
 use Rattle.loader_order.proofs.CodeLaws.{Passed, passed}
-use Rattle.loader.specs.Taken.{after}
-use Rattle.loader.specs.Decided.{case_in, code_in, fits, nothing, DecidedIn}
+use Rattle.loader.specs.Decided.{case_in, code_in, fits}
 use Rattle.loader_progress.proofs.Progress.{placed_32, size_of, late}
 
 -- ---- a form of which nothing is said
@@ -43,22 +36,10 @@ narrow_by d (Scale s t) a b = tt
 narrow_by d (Of p i) a b = ((size_of d.stage d.n (Of p i) (late d.stage a) b).1, placed_32 d.stage d.n (Of p i) a b)
 narrow_by d End a b = (size_of d.stage d.n End (late d.stage a) b).1
 
-module _ (d : Loader) (m : CappedForm) (count : ℕ) (inside : Bool) {x : Item} (e : x ≡ item_in m) {o : Outcome} (s : code o ≡ code_in d m count inside) (a : o ≡ Accepted) where
+module _ (d : Loader) (m : CappedForm) (count : ℕ) (inside : Bool) {x : Item} (e : x ≡ item_in m) {o : Outcome} (s : code o ≡ code_in d m count inside) (a : o ≡ Ok tt) where
   holds : Passed (case_in d m count inside)
   unfolding code_in
   holds = passed (case_in d m count inside) (sym s ∙ ap code a)
 
   pub fits_of : fits x ≡ true
   fits_of = rw e (fits_by m inside (placed_32 d.stage d.n (item_in m) holds.early holds.misplaced) holds.outside)
-
--- ---- what the code decides
-module _ (d : Loader) (m : CappedForm) (z : Numbers) {o : Outcome} {x : Item} {vs : List ℤ} (s : code o ≡ code_in d m z.count z.inside) (p : x ≡ item_in m) (q : vs ≡ values_in m z.values) where
-  pub decided_refused : {r : Refusal} → o ≡ Refused r → DecidedIn d m z (record { taken = record { loader = d; outcome = Refused r }; item = nothing; values = vs })
-  decided_refused {r} e =
-      let t : number_of r ∷ values_of r ≡ code_in d m z.count z.inside = ap code (sym e) ∙ s in
-      record { says = t; loader = rw (← t); item = rw (← t); values = q }
-
-  pub decided_accepted : {d' : Loader} → o ≡ Accepted → d' ≡ after d x → DecidedIn d m z (record { taken = record { loader = d'; outcome = Accepted }; item = x; values = vs })
-  decided_accepted e f =
-      let t : [] ≡ code_in d m z.count z.inside = ap code (sym e) ∙ s in
-      record { says = t; loader = rw (← t, ← p) f; item = rw (← t) p; values = q }

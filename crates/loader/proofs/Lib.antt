@@ -1,4 +1,3 @@
-pub mod Judge
 pub mod Advance
 pub mod Form
 pub mod Exact

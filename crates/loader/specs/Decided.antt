@@ -3,16 +3,16 @@
 --   case_in d m c b — the cases from 11 on; c is the count of its list, b is whether the numbers of its list are in their range
 --   code_in         — what is said of it
 --   fits x         — its numbers are in their ranges, i in 1 to 32
---   nothing        — an item that leaves the lists;  refused_by d x — what is decided of a line that is refused with x
---   DecidedIn      — what is decided of a form: what is said, the loader then, and the form to write
---   DecidedFor     — what is decided of a line, with the lists l: what is said, the loader then, that there is room for the form to write, and what it leaves
+--   AcceptedOf   — what an accepted form gives: nothing is said, and there are the loader then and the form to write
+--   DecidedIn      — what is decided of a form: that, or the refusal that is said
+--   AcceptedAt   — what an accepted line gives, with the lists l: nothing is said, and there are the loader then, room for the form to write, and what it leaves
+--   DecidedFor     — what is decided of a line, with the lists l: that, or the refusal that is said
 --   DecidedAs      — that, with any lists of which one is too short or none is
-use Rattle.std.specs.Prelude.{Bool, true, false, ◌&&◌, List, ◌≡◌, ℕ, pos, replicate}
-use Rattle.rules.specs.Order.{if_accepted, verdict}
+use Rattle.std.specs.Prelude.{Bool, true, false, ◌&&◌, List, [], ◌≡◌, ℕ, Result, Err, MatchResult}
+use Rattle.rules.specs.Order.{verdict}
 use Rattle.rules.specs.Range.{in_range}
 use Rattle.rules.specs.Refusal.{code}
 use Rattle.rules.specs.declared.Kind.TheVariants as kind
-use Rattle.rules.specs.declared.Outcome.TheVariants.{Refused}
 use Rattle.rules.specs.declared.Refusal.{Refusal}
 use Rattle.line_parts.specs.declared.CappedForm.{CappedForm}
 use Rattle.line_form.specs.declared.Numbers.{Numbers}
@@ -26,7 +26,7 @@ use Rattle.loader_lists.specs.Pasted.{Rooms, pasted_all}
 use Rattle.loader_lists.specs.Put.{closed}
 use Rattle.loader_progress.specs.Progress.{set_of, missing, early, misplaced, repeated, incomplete}
 use Rattle.loader_order.specs.Order.{LineCase, line_order}
-use Rattle.loader.specs.declared.Decided.{Decided}
+use Rattle.loader.specs.declared.AcceptedForm.{AcceptedForm}
 use Rattle.loader.specs.declared.Loader.{Loader}
 use Rattle.loader.specs.Answer.{line_answer}
 use Rattle.loader.specs.Taken.{after, loader_after, lists_after}
@@ -55,23 +55,23 @@ fits (Scale s t) = in_range kind.SolutionScale s && in_range kind.InverseScale t
 fits (Of p i) = placed 32 (Of p i)
 fits End = true
 
-abbrev pub nothing : Item
-nothing = Problem (pos 0)
+pub record AcceptedOf (d : Loader) (m : CappedForm) (z : Numbers) (a : AcceptedForm) : Type 0 where
+  pub says : [] ≡ code_in d m z.count z.inside
+  pub loader : a.loader ≡ after d (item_in m)
+  pub item : a.item ≡ item_in m
+  pub values : a.values ≡ values_in m z.values
 
-abbrev pub refused_by : Loader → Refusal → Decided
-refused_by d x = record { taken = record { loader = d; outcome = Refused x }; item = nothing; values = replicate 32 (pos 0) }
+abbrev pub DecidedIn : Loader → CappedForm → Numbers → Result AcceptedForm Refusal → Type 0
+DecidedIn d m z r = MatchResult r (AcceptedOf d m z) (λ (x : Refusal). code (Err x) ≡ code_in d m z.count z.inside)
 
-pub record DecidedIn (d : Loader) (m : CappedForm) (z : Numbers) (r : Decided) : Type 0 where
-  pub says : code r.taken.outcome ≡ code_in d m z.count z.inside
-  pub loader : r.taken.loader ≡ if_accepted (code_in d m z.count z.inside) (after d (item_in m)) d
-  pub item : r.item ≡ if_accepted (code_in d m z.count z.inside) (item_in m) nothing
-  pub values : r.values ≡ values_in m z.values
+pub record AcceptedAt (d : Loader) (l : Lists) (line : List ℕ) (a : AcceptedForm) : Type 0 where
+  pub says : [] ≡ line_answer d l line
+  pub loader : a.loader ≡ loader_after d l line
+  pub room : Rooms d.n a.item l
+  pub lists : closed d.n (set_of d.sets Weight) a.item (pasted_all d.n a.item a.values l) ≡ lists_after d l line
 
-pub record DecidedFor (d : Loader) (l : Lists) (line : List ℕ) (r : Decided) : Type 0 where
-  pub says : code r.taken.outcome ≡ line_answer d l line
-  pub loader : r.taken.loader ≡ loader_after d l line
-  pub room : Rooms d.n r.item l
-  pub lists : closed d.n (set_of d.sets Weight) r.item (pasted_all d.n r.item r.values l) ≡ lists_after d l line
+abbrev pub DecidedFor : Loader → Lists → List ℕ → Result AcceptedForm Refusal → Type 0
+DecidedFor d l line r = MatchResult r (AcceptedAt d l line) (λ (x : Refusal). code (Err x) ≡ line_answer d l line)
 
-abbrev pub DecidedAs : Loader → Bool → List ℕ → Decided → Type 0
+abbrev pub DecidedAs : Loader → Bool → List ℕ → Result AcceptedForm Refusal → Type 0
 DecidedAs d short line r = (l : Lists) → short_lists l ≡ short → DecidedFor d l line r

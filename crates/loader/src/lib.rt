@@ -8,13 +8,13 @@ ghost use Rattle.loader_lists.specs.Lists.{lists};
 ghost use Rattle.loader_progress.specs.Progress.{ended};
 ghost use Rattle.loader_order.specs.Through.{CheckedThrough};
 ghost use Rattle.loader.specs.Taken.{fresh, after, TakenAs, numbers_of_loader, loader_of};
-ghost use Rattle.loader.specs.Decided.{code_in, fits, refused_by, DecidedIn, DecidedAs};
+ghost use Rattle.loader.specs.Decided.{code_in, fits, DecidedIn, DecidedAs};
 
 use line_form::Numbers;
-use line_parts::{Answer, CappedForm};
+use line_parts::CappedForm;
 use loader_progress::Stage;
 use loader_values::{Item, Part};
-use rules::{Outcome, Refusal};
+use rules::Refusal;
 
 // n, s and t once given, how far the loader has come, and for each part the set of the forms it was given.
 #[derive(Clone, Copy)]
@@ -26,18 +26,17 @@ pub struct Loader {
     sets: [u32; 5],
 }
 
-// What taking a line gives back.
+// What taking a line gives back. The loader stands beside the outcome, since TakenAs says of both what they are on a refusal too: the loader as before.
 #[derive(Clone, Copy)]
 pub struct Taken {
     pub loader: Loader,
-    pub outcome: Outcome,
+    pub outcome: Result<(), Refusal>,
 }
 
-// What is decided of a line before anything is written: what is given back, and the form to write. A problem form writes nothing, and stands where nothing
-// is to be written.
+// What an accepted form gives before anything is written: the loader then, and the form to write.
 #[derive(Clone, Copy)]
-pub struct Decided {
-    taken: Taken,
+struct AcceptedForm {
+    loader: Loader,
     item: Item,
     values: [i64; 32],
 }
@@ -56,14 +55,13 @@ impl Loader {
         }
     }
 
-    // The loader in nine numbers, for callers that cannot hold the struct.
+    // The loader in nine numbers, for callers that cannot hold the struct: kodarfi_loader_new and kodarfi_loader_take give them to C.
     pub fn numbers(self) -> [u32; 9]
         ensures { result ≡ numbers_of_loader self }
     {
-        let stage = self.stage;
         let sets = self.sets;
         [
-            loader_progress::stage_number(stage),
+            loader_progress::stage_number(self.stage),
             self.n,
             self.s,
             self.t,
@@ -79,13 +77,12 @@ impl Loader {
     pub fn from_numbers(numbers: [u32; 9]) -> Loader
         ensures { result ≡ loader_of numbers }
     {
-        let sets = [numbers[4], numbers[5], numbers[6], numbers[7], numbers[8]];
         Loader {
             n: numbers[1],
             s: numbers[2],
             t: numbers[3],
             stage: loader_progress::stage_of(numbers[0]),
-            sets: sets,
+            sets: [numbers[4], numbers[5], numbers[6], numbers[7], numbers[8]],
         }
     }
 
@@ -114,34 +111,31 @@ impl Loader {
     pub fn has_ended(self) -> bool
         ensures { result ≡ ended self.stage }
     {
-        let stage = self.stage;
-        loader_progress::is_ended(stage)
+        loader_progress::is_ended(self.stage)
     }
 
     // The answer to a form: 11, 3 for i, 12, 3 for values, 4 and 13, in this order.
-    fn judge_form(self, form: CappedForm, count: usize, inside: bool) -> Outcome
+    #[tactic(auto, unfolding(crate::specs::Decided::code_in))]
+    fn judge_form(self, form: CappedForm, count: usize, inside: bool) -> Result<(), Refusal>
         ensures { code result ≡ code_in self form count inside }
     {
-        let n = self.n;
-        let stage = self.stage;
-        let sets = self.sets;
         let item = loader_values::item_of(form);
-        if loader_progress::is_early(stage, item) {
-            return Outcome::Refused(Refusal::TooEarly);
+        if loader_progress::is_early(self.stage, item) {
+            return Err(Refusal::TooEarly);
         }
-        if loader_progress::is_misplaced(stage, n, item) {
-            return Outcome::Refused(Refusal::OutOfRange);
+        if loader_progress::is_misplaced(self.stage, self.n, item) {
+            return Err(Refusal::OutOfRange);
         }
-        if loader_progress::is_repeated(stage, sets, item) {
-            return Outcome::Refused(Refusal::Repeated);
+        if loader_progress::is_repeated(self.stage, self.sets, item) {
+            return Err(Refusal::Repeated);
         }
         if loader_values::is_outside(form, inside) {
-            return Outcome::Refused(Refusal::OutOfRange);
+            return Err(Refusal::OutOfRange);
         }
-        if loader_values::is_miscounted(form, count, n as usize) {
-            return Outcome::Refused(Refusal::WrongCount);
+        if loader_values::is_miscounted(form, count, self.n as usize) {
+            return Err(Refusal::WrongCount);
         }
-        loader_progress::judge_end(stage, n, sets, item)
+        loader_progress::judge_end(self.stage, self.n, self.sets, item)
     }
 
     // The loader after an accepted form.
@@ -149,107 +143,58 @@ impl Loader {
         requires { fits item ≡ true }
         ensures { result ≡ after self item }
     {
-        let sets = self.sets;
-        let stage = self.stage;
         match item {
             Item::Problem(n) => Loader {
                 n: loader_values::natural(n),
-                s: self.s,
-                t: self.t,
                 stage: Stage::Sized,
-                sets: sets,
+                ..self
             },
             Item::Scale(s, t) => Loader {
-                n: self.n,
                 s: loader_values::natural(s),
                 t: loader_values::natural(t),
                 stage: Stage::Scaled,
-                sets: sets,
+                ..self
             },
             Item::Of(part, i) => Loader {
-                n: self.n,
-                s: self.s,
-                t: self.t,
-                stage: stage,
-                sets: loader_progress::with(sets, part, loader_values::place_of(i)),
+                sets: loader_progress::with(self.sets, part, loader_values::place_of(i)),
+                ..self
             },
             Item::End => Loader {
-                n: self.n,
-                s: self.s,
-                t: self.t,
                 stage: Stage::Ended,
-                sets: sets,
+                ..self
             },
-        }
-    }
-
-    // A refused line: the loader as it is, and nothing to write.
-    fn refused(self, refusal: Refusal) -> Decided
-        ensures { result ≡ refused_by self refusal }
-    {
-        Decided {
-            taken: Taken {
-                loader: self,
-                outcome: Outcome::Refused(refusal),
-            },
-            item: Item::Problem(0),
-            values: [0; 32],
         }
     }
 
     // What is decided of a form.
-    fn decide_form(self, form: CappedForm, numbers: Numbers) -> Decided
+    fn decide_form(self, form: CappedForm, numbers: Numbers) -> Result<AcceptedForm, Refusal>
         ensures { DecidedIn self form numbers result }
     {
-        let count = numbers.count;
-        let inside = numbers.inside;
-        let listed = numbers.values;
+        self.judge_form(form, numbers.count, numbers.inside)?;
         let item = loader_values::item_of(form);
-        let values = loader_values::values_of(form, listed);
-        let outcome = self.judge_form(form, count, inside);
-        match outcome {
-            Outcome::Refused(refusal) => Decided {
-                taken: Taken {
-                    loader: self,
-                    outcome: Outcome::Refused(refusal),
-                },
-                item: Item::Problem(0),
-                values,
-            },
-            Outcome::Accepted => Decided {
-                taken: Taken {
-                    loader: self.advance(item),
-                    outcome: Outcome::Accepted,
-                },
-                item,
-                values,
-            },
-        }
+        Ok(AcceptedForm {
+            loader: self.advance(item),
+            item,
+            values: loader_values::values_of(form, numbers.values),
+        })
     }
 
     // What is decided of a line; short: whether a lent list is too short.
-    fn decide(self, short: bool, line: &[u8]) -> Decided
+    fn decide(self, short: bool, line: &[u8]) -> Result<AcceptedForm, Refusal>
         ensures { DecidedAs self short line.now result }
     {
         if short {
-            return self.refused(Refusal::TooShort);
+            return Err(Refusal::TooShort);
         }
-        let stage = self.stage;
-        if loader_progress::is_ended(stage) {
-            return self.refused(Refusal::AfterEnd);
+        if loader_progress::is_ended(self.stage) {
+            return Err(Refusal::AfterEnd);
         }
         let read = line::read_line(line);
-        let answer = read.answer;
-        match answer {
-            Answer::Refused(refusal) => self.refused(refusal),
-            Answer::Form(form) => {
-                let numbers = read.numbers;
-                self.decide_form(form, numbers)
-            }
-        }
+        let form = read.answer?;
+        self.decide_form(form, read.numbers)
     }
 
-    // One line without its line feed, and the lists that its numbers go into.
+    // One line without its line feed, and the lists that its numbers go into: six, as kodarfi_loader_take is lent them.
     pub fn take(
         self,
         line: &[u8],
@@ -275,17 +220,31 @@ impl Loader {
             inverse.len(),
             weights.len(),
         );
-        let decided = self.decide(short, line);
-        let item = decided.item;
-        let values = decided.values;
-        let n = self.n as usize;
-        let sets = self.sets;
-        let given = loader_progress::set_of(sets, Part::Weight);
-        loader_lists::write_all(
-            item, values, given, n, matrix, right, tolerance, guess, inverse, weights,
-        );
-        let taken = decided.taken;
-        taken
+        match self.decide(short, line) {
+            Err(refusal) => Taken {
+                loader: self,
+                outcome: Err(refusal),
+            },
+            Ok(accepted) => {
+                let given = loader_progress::set_of(self.sets, Part::Weight);
+                loader_lists::write_all(
+                    accepted.item,
+                    accepted.values,
+                    given,
+                    self.n as usize,
+                    matrix,
+                    right,
+                    tolerance,
+                    guess,
+                    inverse,
+                    weights,
+                );
+                Taken {
+                    loader: accepted.loader,
+                    outcome: Ok(()),
+                }
+            }
+        }
     }
 
     // The check of what was collected, on the lists as they are now. After an accepted end it is the check on lists.
@@ -299,7 +258,7 @@ impl Loader {
         weights: &[i64],
         solution_bounds: &mut [u64],
         inverse_bounds: &mut [u64],
-    ) -> Outcome
+    ) -> Result<(), Refusal>
         ensures { CheckedThrough self.stage
             (input self.n self.s self.t matrix.now right.now tolerance.now guess.now
             inverse.now weights.now solution_bounds.old inverse_bounds.old)
@@ -315,8 +274,7 @@ impl Loader {
             solution_bounds.len(),
             inverse_bounds.len(),
         );
-        let stage = self.stage;
-        if loader_progress::is_ended(stage) {
+        if loader_progress::is_ended(self.stage) {
             return check_lists::check(
                 self.n,
                 self.s,
@@ -336,11 +294,12 @@ impl Loader {
 }
 
 // The answer to a check before an accepted end; short: whether a lent list is too short.
-fn not_ended(short: bool) -> Outcome
+fn not_ended(short: bool) -> Result<(), Refusal>
     ensures { code result ≡ cond short (8 ∷ []) (15 ∷ []) }
 {
-    if short {
-        return Outcome::Refused(Refusal::TooShort);
-    }
-    Outcome::Refused(Refusal::NotEnded)
+    Err(if short {
+        Refusal::TooShort
+    } else {
+        Refusal::NotEnded
+    })
 }

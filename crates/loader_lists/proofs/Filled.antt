@@ -1,31 +1,20 @@
 -- Laws of the ones that an end fills in.
---   place_given, place_open, end_room_lem, end_filled — the list at one place, and an end, as the code meets them
 --   length_filled — the list keeps its length
 --   filled_given, filled_one, filled_past — a weight that was given stays; one that was not is 1; no place from n on changes
 --   filled_all — where every weight was given the list stays as it is
-use mathlib.Core.Path.{◌≡◌, refl, sym, ◌∙◌}
-use mathlib.Core.Bool.{Bool, true, false, not, cond}
+use mathlib.Core.Path.{◌≡◌, refl, ◌∙◌}
+use mathlib.Core.Bool.{Bool, true, false, cond}
 use mathlib.Core.List.{List}
 use Prim.Native.Nat.{ℕ, zero, suc, ◌≤◌, ◌<◌}
 use native.Mathlib.Decide.{ℕ_discrete}
 use native.Mathlib.Omega.{arith}
-use borrow.Author.Tests.{not-true, not-false}
 use lib.IntN.{ℤ, pos}
 use lib.ListN.{length, get_or, set, length-set}
 use lib.Seq.{get_or-set_same, get_or-set_other}
 use Rattle.loader_bit_set.specs.Places.{has_place}
-use Rattle.loader_values.specs.declared.Item.{Item}
-use Rattle.loader_values.specs.declared.Item.TheVariants.{End}
-use Rattle.loader_lists.specs.Put.{filled_at, filled, closed_weights}
-use Rattle.loader_lists.specs.Span.{FillRoom}
+use Rattle.loader_lists.specs.Put.{filled_at, filled}
 
 module _ (z k : ℕ) (l : List ℤ) where
-  pub place_given : {b : Bool} → b ≡ has_place z k → not b ≡ false → l ≡ filled_at z k l
-  place_given {b} e h = let g : has_place z k ≡ true = sym e ∙ not-false b h in rw g
-
-  pub place_open : {b : Bool} → b ≡ has_place z k → not b ≡ true → set l k (pos 1) ≡ filled_at z k l
-  place_open {b} e h = let g : has_place z k ≡ false = sym e ∙ not-true b h in rw g
-
   length_at : length (filled_at z k l) ≡ length l
   length_at = go (has_place z k)
     where
@@ -45,21 +34,6 @@ module _ (z k : ℕ) (l : List ℤ) where
       go : (b : Bool) → get_or (cond b l (set l k (pos 1))) i (pos 0) ≡ get_or l i (pos 0)
       go true = refl
       go false = get_or-set_other l k i (pos 1) (pos 0) e
-
--- an end
-pub end_room_lem : {n k : ℕ} {x : Item} → x ≡ End → FillRoom n k x → (n ≤ 32) × (n ≤ k)
-end_room_lem e h = rw e at h
-
-pub end_filled : (n z : ℕ) (l : List ℤ) {x : Item} {l' : List ℤ} → x ≡ End → l' ≡ filled n z l → l' ≡ closed_weights n z x l
-end_filled n z l e h = rw e h
-
-pub filled_none : (z : ℕ) (l : List ℤ) → l ≡ filled 0 z l
-unfolding filled
-filled_none z l = refl
-
-pub filled_next : (k z : ℕ) (l : List ℤ) → filled_at z k (filled k z l) ≡ filled (suc k) z l
-unfolding filled
-filled_next k z l = refl
 
 pub length_filled : (n z : ℕ) (l : List ℤ) → length (filled n z l) ≡ length l
 unfolding filled

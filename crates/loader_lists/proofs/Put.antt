@@ -1,13 +1,11 @@
 -- Laws of writing a form's numbers into a list, in the shape in which the code meets them.
---   narrow_at, narrow_of — what is known of an item of a part
---   span_same, span_other — its places in a list of that part, and in another
+--   narrow_of — what is known of an item of a part
 --   span_fits  — they are inside a list that has room for them
 use mathlib.Core.Path.{◌≡◌}
 use mathlib.Core.Bool.{Bool, true, false, ◌&&◌, cond}
 use Prim.Native.Nat.{ℕ, suc, ◌+◌, ◌*◌, ◌-◌, ◌≤◌}
 use native.Mathlib.Nat.{mul-le-mul_right, suc-mul}
 use native.Mathlib.Omega.{arith}
-use borrow.Author.Tests.{eq-eqb, ne_eqb}
 use lib.Dec.{eqb}
 use lib.IntN.{ℤ, pos, nat_abs}
 use lib.Signed.{le_z}
@@ -19,9 +17,6 @@ use Rattle.loader_values.proofs.Between.{from_to_lem}
 use Rattle.loader_lists.specs.declared.Span.{Span}
 use Rattle.loader_lists.specs.Span.{Narrow, Room, nowhere, span_of}
 
-pub narrow_at : (w : ℕ) {x : Item} {p : Part} {i : ℤ} → x ≡ Of p i → Narrow w x → (w ≤ 32) × (le_z (pos 1) i && le_z i (pos 32) ≡ true)
-narrow_at w e h = rw e at h
-
 pub narrow_of : (w k : ℕ) (x : Item) → Room w k x → Narrow w x
 narrow_of w k (Problem n) h = h
 narrow_of w k (Scale s t) h = h
@@ -30,13 +25,6 @@ narrow_of w k End h = h
 
 pub stride : (k w : ℕ) → 1 ≤ k → k ≤ 32 → (k - 1) * w + w ≤ 32 * w
 stride k w p q = omega (arith, suc-mul (k - 1) w, mul-le-mul_right {m = suc (k - 1)} {n = 32} w (omega arith))
-
-module _ (w : ℕ) (p : Part) {q : Part} {x : Item} {i : ℤ} (e : x ≡ Of q i) where
-  pub span_same : {k : ℕ} → part_index p ≡ part_index q → k ≡ nat_abs i → record { at = (k - 1) * w; count = w } ≡ span_of p x w
-  span_same s k = rw (e, eq-eqb _ _ s, k)
-
-  pub span_other : (part_index p ≡ part_index q → ⊥) → nowhere ≡ span_of p x w
-  span_other s = rw (e, ne_eqb _ _ s)
 
 -- at most 32 places, which end inside the list
 pub record InSpan (s : Span) (k : ℕ) : Type 0 where

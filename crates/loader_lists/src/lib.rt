@@ -11,7 +11,7 @@ ghost use Rattle.loader_lists.specs.Pasted.{Rooms, pasted_all};
 use loader_values::{Item, Part};
 use rules::{COLUMN_LENGTH, MATRIX_LENGTH};
 
-// Places of a list, one after another.
+// Places of a list, one after another, as `span_of` of specs/Span.antt has them.
 #[derive(Clone, Copy)]
 pub struct Span {
     at: usize,
@@ -24,31 +24,14 @@ fn span_of(part: Part, item: Item, width: usize) -> Span
     ensures { result ≡ span_of part item width }
 {
     match item {
-        Item::Problem(_) => Span { at: 0, count: 0 },
-        Item::Scale(_, _) => Span { at: 0, count: 0 },
-        Item::Of(of, i) => {
-            if loader_values::part_index(part) == loader_values::part_index(of) {
-                let k = loader_values::place_of(i) as usize;
-                return Span {
-                    at: (k - 1) * width,
-                    count: width,
-                };
+        Item::Of(of, i) if part == of => {
+            let k = loader_values::place_of(i) as usize;
+            Span {
+                at: (k - 1) * width,
+                count: width,
             }
-            Span { at: 0, count: 0 }
         }
-        Item::End => Span { at: 0, count: 0 },
-    }
-}
-
-// Writes the first count of 32 numbers into a list from an index on.
-fn write_values(values: [i64; 32], count: usize, l: &mut [i64], at: usize)
-    requires { (count ≤ 32) × (at + count ≤ length l.old) }
-    ensures { l.new ≡ paste l.old at values count }
-{
-    let mut j = 0;
-    while j < count {
-        l[at + j] = values[j];
-        j += 1;
+        _ => Span { at: 0, count: 0 },
     }
 }
 
@@ -58,15 +41,14 @@ pub fn write_part(part: Part, item: Item, values: [i64; 32], width: usize, l: &m
     ensures { l.new ≡ pasted_at (span_of part item width) values l.old }
 {
     let span = span_of(part, item, width);
-    write_values(values, span.count, l, span.at);
+    l[span.at..span.at + span.count].copy_from_slice(&values[..span.count]);
 }
 
 // The second of 32 numbers, 32 times.
 pub fn second_of(values: [i64; 32]) -> [i64; 32]
     ensures { result ≡ second_of values }
 {
-    let second = values[1];
-    [second; 32]
+    [values[1]; 32]
 }
 
 // Writes 1 at the index i of a list, where it is not in the set.
@@ -80,14 +62,13 @@ fn fill_place(set: u32, i: usize, l: &mut [i64])
 }
 
 // Writes 1 at each of the first n indices of a list that are not in the set.
+#[tactic(auto, unfolding(crate::specs::Put::filled))]
 fn fill_places(set: u32, n: usize, l: &mut [i64])
     requires { (n ≤ 32) × (n ≤ length l.old) }
     ensures { l.new ≡ filled n set l.old }
 {
-    let mut i = 0;
-    while i < n {
+    for i in 0..n {
         fill_place(set, i, l);
-        i += 1;
     }
 }
 
@@ -96,15 +77,12 @@ pub fn fill_weights(item: Item, given: u32, n: usize, weights: &mut [i64])
     requires { FillRoom n (length weights.old) item }
     ensures { weights.new ≡ closed_weights n given item weights.old }
 {
-    match item {
-        Item::Problem(_) => {}
-        Item::Scale(_, _) => {}
-        Item::Of(_, _) => {}
-        Item::End => fill_places(given, n, weights),
+    if let Item::End = item {
+        fill_places(given, n, weights);
     }
 }
 
-// 8: whether a list of one of these lengths is too short.
+// 8: whether a list of one of these lengths is too short. The six lengths come one by one, as C lends the lists and `is_too_short` has them.
 pub fn is_short(
     matrix: usize,
     right: usize,
@@ -115,16 +93,17 @@ pub fn is_short(
 ) -> bool
     ensures { result ≡ is_too_short matrix right tolerance guess inverse weights }
 {
-    (matrix < MATRIX_LENGTH)
-        | ((right < COLUMN_LENGTH)
-            | ((tolerance < COLUMN_LENGTH)
-                | ((guess < COLUMN_LENGTH)
-                    | ((inverse < MATRIX_LENGTH) | (weights < COLUMN_LENGTH)))))
+    matrix < MATRIX_LENGTH
+        || right < COLUMN_LENGTH
+        || tolerance < COLUMN_LENGTH
+        || guess < COLUMN_LENGTH
+        || inverse < MATRIX_LENGTH
+        || weights < COLUMN_LENGTH
 }
 
 // Writes the numbers of an accepted form at their own indices: they come first among the values, n of them in a row, else one, and a right side's tolerance is
-// the second, which goes into a list of its own. An end fills in the
-// weights whose indices are not in the set of those given.
+// the second, which goes into a list of its own. An end fills in the weights whose indices are not in the set of
+// those given. The six lists come one by one, as C lends them.
 pub fn write_all(
     item: Item,
     values: [i64; 32],

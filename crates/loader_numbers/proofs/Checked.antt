@@ -4,7 +4,7 @@ use mathlib.Core.Path.{◌≡◌, subst}
 use mathlib.Core.List.{List}
 use Prim.Native.Nat.{ℕ}
 use lib.IntN.{ℤ}
-use Rattle.rules.specs.declared.Outcome.{Outcome}
+use Rattle.rules.specs.Refusal.{Outcome}
 use Rattle.check_spec.specs.Input.{input}
 use Rattle.loader_order.specs.Through.{CheckedThrough}
 use Rattle.loader.specs.declared.Loader.{Loader}

@@ -6,8 +6,7 @@ use mathlib.Core.Path.{◌≡◌, refl, sym, ap, subst, ◌∙◌}
 use mathlib.Core.List.{List, [], ◌∷◌}
 use Prim.Native.Nat.{ℕ}
 use Rattle.rules.specs.Refusal.{code, number_of, values_of}
-use Rattle.rules.specs.declared.Outcome.{Outcome}
-use Rattle.rules.specs.declared.Outcome.TheVariants.{Accepted, Refused}
+use Rattle.std.specs.Prelude.{Ok, Err}
 use Rattle.rules.specs.declared.Refusal.{Refusal}
 use Rattle.rules.proofs.Verdicts.{accepted_new, accepted_old}
 use Rattle.loader_lists.specs.Lists.{Lists}
@@ -22,13 +21,13 @@ module _ (w : List ℕ) {line : List ℕ} {l l' : Lists} {d : Loader} {t : Taken
   own : TakenAs (loader_of w) line l t l'
   own = subst (λ (d : Loader). TakenAs d line l t l') e x
 
-  pub taken_accepted : {w' : List ℕ} → t.outcome ≡ Accepted → w' ≡ numbers_of_loader t.loader → LoaderTaken w line l Accepted w' l'
+  pub taken_accepted : {w' : List ℕ} → t.outcome ≡ Ok tt → w' ≡ numbers_of_loader t.loader → LoaderTaken w line l (Ok tt) w' l'
   unfolding numbers_after
   taken_accepted o n =
       let a : line_answer (loader_of w) l line ≡ [] = sym own.says ∙ ap code o in
       record { says = sym a; numbers = n ∙ ap numbers_of_loader own.loader ∙ sym (accepted_new _ _ a); lists = own.lists }
 
-  pub taken_refused : {f : Refusal} → t.outcome ≡ Refused f → LoaderTaken w line l (Refused f) w l'
+  pub taken_refused : {f : Refusal} → t.outcome ≡ Err f → LoaderTaken w line l (Err f) w l'
   unfolding numbers_after
   taken_refused {f} o =
       let a : line_answer (loader_of w) l line ≡ number_of f ∷ values_of f = sym own.says ∙ ap code o in

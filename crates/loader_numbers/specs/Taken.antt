@@ -4,8 +4,7 @@
 --   LoaderTaken             — the contract of `take`: what `TakenAs`, the contract of `Loader::take`, has of the loader that the numbers stand for
 use Rattle.std.specs.Prelude.{List, ◌≡◌, ℕ}
 use Rattle.rules.specs.Order.{if_accepted}
-use Rattle.rules.specs.Refusal.{code}
-use Rattle.rules.specs.declared.Outcome.{Outcome}
+use Rattle.rules.specs.Refusal.{code, Outcome}
 use Rattle.loader_lists.specs.Lists.{Lists}
 use Rattle.loader.specs.Answer.{line_answer}
 use Rattle.loader.specs.Taken.{loader_after, lists_after, loader_of, numbers_of_loader}

@@ -9,7 +9,7 @@ ghost use Rattle.loader.specs.Taken.{fresh, loader_of, numbers_of_loader};
 ghost use Rattle.loader_numbers.specs.Taken.{LoaderTaken};
 
 use loader::Loader;
-use rules::Outcome;
+use rules::Refusal;
 
 // A loader that was given nothing.
 pub fn renew(loader: &mut [u32; 9])
@@ -28,7 +28,7 @@ pub fn take(
     guess: &mut [i64],
     inverse: &mut [i64],
     weights: &mut [i64],
-) -> Outcome
+) -> Result<(), Refusal>
     ensures { LoaderTaken loader.old line.now
         (lists matrix.old right.old tolerance.old guess.old inverse.old
         weights.old)
@@ -39,16 +39,9 @@ pub fn take(
     let taken = Loader::from_numbers(*loader).take(
         line, matrix, right, tolerance, guess, inverse, weights,
     );
-    let outcome = taken.outcome;
-    let next = taken.loader;
-    let numbers = next.numbers();
-    match outcome {
-        Outcome::Accepted => {
-            *loader = numbers;
-            Outcome::Accepted
-        }
-        Outcome::Refused(refusal) => Outcome::Refused(refusal),
-    }
+    taken.outcome?;
+    *loader = taken.loader.numbers();
+    Ok(())
 }
 
 // The check of what was collected (`Loader::check`).
@@ -62,7 +55,7 @@ pub fn check(
     weights: &[i64],
     solution_bounds: &mut [u64],
     inverse_bounds: &mut [u64],
-) -> Outcome
+) -> Result<(), Refusal>
     ensures { CheckedThrough (loader_of loader.now).stage
         (input (loader_of loader.now).n (loader_of loader.now).s (loader_of loader.now).t
         matrix.now right.now tolerance.now guess.now

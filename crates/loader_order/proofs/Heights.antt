@@ -4,8 +4,7 @@ use mathlib.Core.List.{List, []}
 use mathlib.Core.Path.{◌≡◌}
 use Prim.Native.Nat.{ℕ, ◌+◌, ◌*◌}
 use lib.ListN.{get_or}
-use Rattle.rules.specs.Refusal.{code}
-use Rattle.rules.specs.declared.Outcome.{Outcome}
+use Rattle.rules.specs.Refusal.{code, Outcome}
 use Rattle.enclosure.specs.Height.{OneHeight}
 use Rattle.enclosure.proofs.Demands.{one_height}
 use Rattle.check_spec.specs.Input.{Input, problem}

@@ -12,8 +12,7 @@ use Prim.Native.Nat.{ℕ}
 use lib.ListN.{take, drop}
 use Rattle.integer.proofs.Search.{clash}
 use Rattle.rules.specs.Order.{Test, number, verdict}
-use Rattle.rules.specs.Refusal.{code}
-use Rattle.rules.specs.declared.Outcome.{Outcome}
+use Rattle.rules.specs.Refusal.{code, Outcome}
 use Rattle.rules.proofs.Verdicts.{nothing_is_not}
 use Rattle.rules.proofs.Tests.{None, code_exactly}
 use Rattle.check_spec.specs.Input.{Input, short, in_ranges}

@@ -4,8 +4,7 @@
 --   CheckedThrough    — the contract of `Loader::check`: what is said, the two lists, and both halves of demand 3 for the limits that the call wrote
 use Rattle.std.specs.Prelude.{true, false, not, List, [], ◌∷◌, ◌≡◌, ℕ, ◌+◌, ◌*◌, get_or}
 use Rattle.rules.specs.Order.{Test, number, verdict}
-use Rattle.rules.specs.Refusal.{code}
-use Rattle.rules.specs.declared.Outcome.{Outcome}
+use Rattle.rules.specs.Refusal.{code, Outcome}
 use Rattle.linear.specs.Matrix.{Vec, Mat}
 use Rattle.enclosure.specs.Demand.{Encloses, RoundedExact}
 use Rattle.check_spec.specs.Input.{Input, problem, short, in_ranges}

@@ -3,14 +3,14 @@
 --   size_of   — past problem, where a form is not misplaced, n is 1 to 32;  placed_of — and its i is 1 to n
 --   placed_32 — a form that is neither early nor misplaced has i in 1 to 32
 --   misplaced_by, misplaced_own, misplaced_start — the outcomes of the test of the place
---   end_size, says_13, says_none — the outcomes of the end
+--   end_size  — at an end that is neither early nor misplaced n is 1 to 32
 --   ungiven_is — the forms that were not given are the missing ones and the weights not given
 use mathlib.Core.Path.{◌≡◌, refl}
-use mathlib.Core.Bool.{Bool, true, false, not, ◌&&◌, cond}
-use mathlib.Core.List.{List, [], ◌∷◌}
-use Prim.Native.Nat.{ℕ, ◌+◌, ◌≤◌, ◌<◌}
+use mathlib.Core.Bool.{Bool, true, false, not, ◌&&◌}
+use mathlib.Core.List.{List}
+use Prim.Native.Nat.{ℕ, ◌+◌, ◌≤◌}
 use native.Mathlib.Omega.{arith}
-use borrow.Author.Tests.{not-false, leb-true, le-leb, lt-ltb, le-ltb}
+use borrow.Author.Tests.{not-false, leb-true, le-leb}
 use lib.IntN.{ℤ, pos, negsuc}
 use lib.Signed.{le_z}
 use Rattle.rules.specs.Range.{in_range}
@@ -23,7 +23,7 @@ use Rattle.loader_values.specs.declared.Item.TheVariants.{Problem, Scale, Of, En
 use Rattle.loader_values.specs.declared.Part.TheVariants.{Weight}
 use Rattle.loader_progress.specs.declared.Stage.{Stage}
 use Rattle.loader_progress.specs.declared.Stage.TheVariants.{Start, Sized, Scaled, Ended}
-use Rattle.loader_progress.specs.Progress.{set_of, sized, scaled, early, misplaced, incomplete, missing}
+use Rattle.loader_progress.specs.Progress.{set_of, sized, scaled, early, misplaced, missing}
 use Rattle.loader_progress.specs.Ungiven.{ungiven}
 
 -- ---- the place
@@ -84,13 +84,6 @@ placed_32 s n End a h = refl
 module _ (s : Stage) (n : ℕ) {x : Item} (e : x ≡ End) where
   pub end_size : early s x ≡ false → misplaced s n x ≡ false → (1 ≤ n) × (n ≤ 32)
   end_size a h = size_of s n End (late s (rw e at a)) (rw e at h)
-
-module _ (n : ℕ) (z : List ℕ) {x : Item} (e : x ≡ End) where
-  pub says_13 : {c : ℕ} → c ≡ missing n z → 0 < c → 13 ∷ c ∷ [] ≡ cond (incomplete n z x) (13 ∷ missing n z ∷ []) []
-  says_13 {c} m l = rw (e, lt-ltb 0 (missing n z) (rw m at l), m)
-
-  pub says_none : {c : ℕ} → c ≡ missing n z → c ≤ 0 → [] ≡ cond (incomplete n z x) (13 ∷ missing n z ∷ []) []
-  says_none {c} m l = rw (e, le-ltb 0 (missing n z) (rw m at l))
 
 pub ungiven_is : (n : ℕ) (z : List ℕ) → ungiven n z ≡ missing n z + lacking (set_of z Weight) n
 unfolding ungiven missing

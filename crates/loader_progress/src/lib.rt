@@ -7,7 +7,7 @@ ghost use Rattle.loader_values.specs.Item.{placed};
 ghost use Rattle.loader_progress.specs.Progress.{set_of, given, marked, missing, sized, scaled, ended, early, misplaced, repeated, incomplete, stage_number, stage_of};
 
 use loader_values::{Item, Part};
-use rules::{Kind, Outcome, Refusal};
+use rules::{Kind, Refusal};
 
 // Nothing given yet, problem given, scale given, end accepted.
 #[derive(Clone, Copy)]
@@ -18,7 +18,7 @@ pub enum Stage {
     Ended,
 }
 
-// The number of a stage.
+// The number of a stage, one of the nine in which kodarfi_loader_new and kodarfi_loader_take give a loader to C.
 pub fn stage_number(stage: Stage) -> u32
     ensures { result ≡ stage_number stage }
 {
@@ -34,50 +34,31 @@ pub fn stage_number(stage: Stage) -> u32
 pub fn stage_of(number: u32) -> Stage
     ensures { result ≡ stage_of number }
 {
-    if number == 1 {
-        return Stage::Sized;
+    match number {
+        1 => Stage::Sized,
+        2 => Stage::Scaled,
+        3 => Stage::Ended,
+        _ => Stage::Start,
     }
-    if number == 2 {
-        return Stage::Scaled;
-    }
-    if number == 3 {
-        return Stage::Ended;
-    }
-    Stage::Start
 }
 
 fn is_sized(stage: Stage) -> bool
     ensures { result ≡ sized stage }
 {
-    match stage {
-        Stage::Start => false,
-        Stage::Sized => true,
-        Stage::Scaled => true,
-        Stage::Ended => true,
-    }
+    !matches!(stage, Stage::Start)
 }
 
 fn is_scaled(stage: Stage) -> bool
     ensures { result ≡ scaled stage }
 {
-    match stage {
-        Stage::Start => false,
-        Stage::Sized => false,
-        Stage::Scaled => true,
-        Stage::Ended => true,
-    }
+    matches!(stage, Stage::Scaled | Stage::Ended)
 }
 
 // 14: whether the end was accepted.
 pub fn is_ended(stage: Stage) -> bool
     ensures { result ≡ ended stage }
 {
-    match stage {
-        Stage::Start => false,
-        Stage::Sized => false,
-        Stage::Scaled => false,
-        Stage::Ended => true,
-    }
+    matches!(stage, Stage::Ended)
 }
 
 // 11: whether a form comes before problem, or before scale.
@@ -87,37 +68,24 @@ pub fn is_early(stage: Stage, item: Item) -> bool
     match item {
         Item::Problem(_) => false,
         Item::Scale(_, _) => !is_sized(stage),
-        Item::Of(_, _) => !is_scaled(stage),
-        Item::End => !is_scaled(stage),
+        Item::Of(_, _) | Item::End => !is_scaled(stage),
     }
 }
 
 // 3 for the place: whether i is not 1 to n, or n itself is out of range.
+#[tactic(auto, unfolding(crate::specs::Progress::misplaced))]
 pub fn is_misplaced(stage: Stage, n: u32, item: Item) -> bool
     ensures { result ≡ misplaced stage n item }
 {
-    if is_sized(stage) {
-        if rules::is_in_range(Kind::Size, n as i64) {
-            !loader_values::is_placed(item, n)
-        } else {
-            true
-        }
-    } else {
-        !loader_values::is_placed(item, n)
-    }
+    (is_sized(stage) && !rules::is_in_range(Kind::Size, i64::from(n)))
+        || !loader_values::is_placed(item, n)
 }
 
-// The set of a part. Its index is a constant in each arm, here and in `with`, so that the five sets need not stand in memory.
+// The set of a part.
 pub fn set_of(sets: [u32; 5], part: Part) -> u32
     ensures { result ≡ set_of sets part }
 {
-    match part {
-        Part::Row => sets[0],
-        Part::Right => sets[1],
-        Part::Guess => sets[2],
-        Part::Inverse => sets[3],
-        Part::Weight => sets[4],
-    }
+    sets[part as usize]
 }
 
 // Whether the form of a part for the number i, from 1, was given.
@@ -133,23 +101,8 @@ pub fn with(mut sets: [u32; 5], part: Part, i: u32) -> [u32; 5]
     requires { (1 ≤ i) × (i ≤ 32) }
     ensures { result ≡ marked sets part i }
 {
-    match part {
-        Part::Row => {
-            sets[0] = loader_bit_set::with_place(sets[0], i - 1);
-        }
-        Part::Right => {
-            sets[1] = loader_bit_set::with_place(sets[1], i - 1);
-        }
-        Part::Guess => {
-            sets[2] = loader_bit_set::with_place(sets[2], i - 1);
-        }
-        Part::Inverse => {
-            sets[3] = loader_bit_set::with_place(sets[3], i - 1);
-        }
-        Part::Weight => {
-            sets[4] = loader_bit_set::with_place(sets[4], i - 1);
-        }
-    }
+    let k = part as usize;
+    sets[k] = loader_bit_set::with_place(sets[k], i - 1);
     sets
 }
 
@@ -167,6 +120,8 @@ pub fn is_repeated(stage: Stage, sets: [u32; 5], item: Item) -> bool
 }
 
 // How many forms are still missing out of 4n: rows, right sides, guesses and inverse rows.
+// The four are named: in a chain over sets[..4] what `sum` and count_lacking require of each step was tried and not proved.
+#[tactic(auto, unfolding(crate::specs::Progress::missing))]
 fn count_missing(sets: [u32; 5], n: u32) -> u32
     requires { (1 ≤ n) × (n ≤ 32) }
     ensures { result ≡ missing n sets }
@@ -178,21 +133,16 @@ fn count_missing(sets: [u32; 5], n: u32) -> u32
 }
 
 // 13: end with forms outstanding, and their count. Any other form is accepted here.
-pub fn judge_end(stage: Stage, n: u32, sets: [u32; 5], item: Item) -> Outcome
+#[tactic(auto, using(crate::proofs::Progress::end_size))]
+pub fn judge_end(stage: Stage, n: u32, sets: [u32; 5], item: Item) -> Result<(), Refusal>
     requires { (early stage item ≡ false) × (misplaced stage n item ≡ false) }
     ensures { code result ≡ cond (incomplete n sets item) (13 ∷ missing n sets ∷ []) [] }
 {
-    match item {
-        Item::Problem(_) => Outcome::Accepted,
-        Item::Scale(_, _) => Outcome::Accepted,
-        Item::Of(_, _) => Outcome::Accepted,
-        Item::End => {
-            let count = count_missing(sets, n);
-            if 0 < count {
-                Outcome::Refused(Refusal::Missing(count))
-            } else {
-                Outcome::Accepted
-            }
+    if let Item::End = item {
+        let count = count_missing(sets, n);
+        if 0 < count {
+            return Err(Refusal::Missing(count));
         }
     }
+    Ok(())
 }

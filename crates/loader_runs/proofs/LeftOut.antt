@@ -26,14 +26,13 @@ use Rattle.loader_progress.proofs.Progress.{late, placed_of}
 use Rattle.loader.specs.Taken.{after}
 use Rattle.loader.proofs.Accepted.{AcceptedLine, accepted_form}
 use Rattle.loader_runs.specs.Run.{State, step, forms}
-use Rattle.loader_runs.specs.Accepts.{run, Accepts}
+use Rattle.loader_runs.specs.Accepts.{run, Accepts, after_form}
 use Rattle.loader_runs.specs.Given.{is_of, absent, value_from}
 use Rattle.integer.specs.Among.{Among, here, there}
 use Rattle.loader_runs.specs.Holds.{HoldsItem, cell}
 use Rattle.loader_runs.proofs.Sound.{SoundLoader, line_sound}
 use Rattle.loader_runs.proofs.Cells.{cell_problem, cell_scale, cell_else, cell_one}
 use Rattle.loader_runs.proofs.Marks.{given_own}
-use Rattle.loader_runs.specs.Accepts.{after_form}
 use Rattle.loader_runs.proofs.View.{View, view, a_problem, a_scale, a_part, an_end}
 use Rattle.loader_runs.proofs.Runs.{step_next, is_of_lem, collected}
 

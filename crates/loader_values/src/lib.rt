@@ -1,16 +1,16 @@
 // What a form of a line gives: for which part and number i, and which numbers.
 #![tactic(auto)]
 
-ghost use Rattle.std.specs.Prelude.{◌≡◌, true, ◌&&◌, ◌≤◌, ◌<◌, pos, nat_abs};
+ghost use Rattle.std.specs.Prelude.{◌≡◌, true, ◌&&◌, ◌≤◌, pos, nat_abs};
 ghost use Rattle.std.specs.Int.Signed.{le_z};
-ghost use Rattle.loader_values.specs.Item.{part_index, placed};
+ghost use Rattle.loader_values.specs.Item.{placed};
 ghost use Rattle.loader_values.specs.Capped.{item_in, outside_in, miscounted_in, values_in};
 
 use line_parts::CappedForm;
 use rules::Kind;
 
 // The forms that are given once for each i from 1 to n.
-#[derive(Clone, Copy)]
+#[derive(Clone, Copy, PartialEq, Eq)]
 pub enum Part {
     Row,
     Right,
@@ -28,18 +28,7 @@ pub enum Item {
     End,
 }
 
-pub fn part_index(part: Part) -> usize
-    ensures { (result ≡ part_index part) × (result < 5) }
-{
-    match part {
-        Part::Row => 0,
-        Part::Right => 1,
-        Part::Guess => 2,
-        Part::Inverse => 3,
-        Part::Weight => 4,
-    }
-}
-
+// Its numbers but i are left out, so it is no `From`.
 pub fn item_of(form: CappedForm) -> Item
     ensures { result ≡ item_in form }
 {
@@ -60,10 +49,8 @@ pub fn is_placed(item: Item, n: u32) -> bool
     ensures { result ≡ placed n item }
 {
     match item {
-        Item::Problem(_) => true,
-        Item::Scale(_, _) => true,
-        Item::Of(_, i) => { if 1 <= i { i <= n as i64 } else { false } }
-        Item::End => true,
+        Item::Of(_, i) => 1 <= i && i <= i64::from(n),
+        _ => true,
     }
 }
 
@@ -74,22 +61,14 @@ pub fn is_outside(form: CappedForm, inside: bool) -> bool
     match form {
         CappedForm::Problem(n) => !rules::is_in_range(Kind::Size, n),
         CappedForm::Scale(s, t) => {
-            if rules::is_in_range(Kind::SolutionScale, s) {
-                !rules::is_in_range(Kind::InverseScale, t)
-            } else {
-                true
-            }
+            !rules::is_in_range(Kind::SolutionScale, s)
+                || !rules::is_in_range(Kind::InverseScale, t)
         }
-        CappedForm::Row(_) => !inside,
         CappedForm::Right(_, b, d) => {
-            if rules::is_in_range(Kind::Right, b) {
-                !rules::is_in_range(Kind::Tolerance, d)
-            } else {
-                true
-            }
+            !rules::is_in_range(Kind::Right, b) || !rules::is_in_range(Kind::Tolerance, d)
         }
+        CappedForm::Row(_) | CappedForm::Inverse(_) => !inside,
         CappedForm::Guess(_, x) => !rules::is_in_range(Kind::Guess, x),
-        CappedForm::Inverse(_) => !inside,
         CappedForm::Weight(_, w) => !rules::is_in_range(Kind::Weight, w),
         CappedForm::End => false,
     }
@@ -100,14 +79,8 @@ pub fn is_miscounted(form: CappedForm, count: usize, n: usize) -> bool
     ensures { result ≡ miscounted_in n form count }
 {
     match form {
-        CappedForm::Problem(_) => false,
-        CappedForm::Scale(_, _) => false,
-        CappedForm::Row(_) => !(count == n),
-        CappedForm::Right(_, _, _) => false,
-        CappedForm::Guess(_, _) => false,
-        CappedForm::Inverse(_) => !(count == n),
-        CappedForm::Weight(_, _) => false,
-        CappedForm::End => false,
+        CappedForm::Row(_) | CappedForm::Inverse(_) => count != n,
+        _ => false,
     }
 }
 
@@ -117,21 +90,13 @@ pub fn values_of(form: CappedForm, listed: [i64; 32]) -> [i64; 32]
 {
     let mut values = listed;
     match form {
-        CappedForm::Problem(_) => {}
-        CappedForm::Scale(_, _) => {}
-        CappedForm::Row(_) => {}
         CappedForm::Right(_, b, d) => {
             values[0] = b;
             values[1] = d;
         }
-        CappedForm::Guess(_, x) => {
-            values[0] = x;
-        }
-        CappedForm::Inverse(_) => {}
-        CappedForm::Weight(_, w) => {
-            values[0] = w;
-        }
-        CappedForm::End => {}
+        CappedForm::Guess(_, x) => values[0] = x,
+        CappedForm::Weight(_, w) => values[0] = w,
+        _ => {}
     }
     values
 }

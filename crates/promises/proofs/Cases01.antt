@@ -12,8 +12,7 @@ use Prim.Native.Nat.{ℕ, ◌+◌, ◌-◌, ◌<◌}
 use native.Mathlib.Omega.{arith}
 use lib.Dec.{eqb}
 use lib.ListN.{get_or}
-use Rattle.rules.specs.Refusal.{code}
-use Rattle.rules.specs.declared.Outcome.{Outcome}
+use Rattle.rules.specs.Refusal.{code, Outcome}
 use Rattle.enclosure.specs.Sound.{Margins, Residuals}
 use Rattle.enclosure.specs.Problem.{column_of}
 use Rattle.enclosure.specs.Reckoning.{margin_fails, exceeds}

@@ -7,14 +7,15 @@ use native.Mathlib.Omega.{arith}
 use borrow.Author.Tests.{le-ltb, ltb-false, ne_eqb}
 use lib.IntN.{ℤ, nat_abs}
 use lib.ListN.{get_or}
+use Rattle.std.proofs.Common.{Result, Ok, Err}
 use Rattle.integer.specs.Finite.{sum}
 use Rattle.linear.specs.Matrix.{product, apply}
 use Rattle.rules.specs.Range.{in_range, range_of, ranges}
+use Rattle.rules.specs.declared.Refusal.{Refusal}
 use Rattle.rules.proofs.Ranges.{neither_left, neither_right}
 use Rattle.entry.specs.Entry.{entry_value, entry_bound}
-use Rattle.entry.specs.Register.{RegisteredAs}
-use Rattle.entry.specs.declared.Registered.{Registered}
-use Rattle.entry.specs.declared.Registered.TheVariants.{Entry, Refused}
+use Rattle.entry.specs.Register.{RegisteredAs, entry_with}
+use Rattle.entry.specs.declared.Entry.{Entry}
 use Rattle.entry.proofs.Limit.{entry_near}
 use Rattle.enclosure.specs.Problem.{Problem, S, column_of}
 use Rattle.enclosure.specs.Reckoning.{defect, load, margin, residual, row_sum, exceeds, exceeds_with, exceeds_row, slack, bound, bound_with, bound_from, magnitudes_with, inverse_bound}
@@ -116,20 +117,20 @@ inverse_limit_is P E L a i j li lj k lk =
     let h = (within (column_of P j) k ((accepted_sound P E L a).columns j lj k lk)).0 in
     ((limits_computed P E L a).1 i j li lj, (refl, (refl, (refl, omega (arith, h)))))
 
-abbrev value_of : Registered → ℤ → ℤ
-value_of (Entry v b) z = v
-value_of (Refused r) z = z
+abbrev value_of : Result Entry Refusal → ℤ → ℤ
+value_of (Ok y) z = y.value
+value_of (Err r) z = z
 
-abbrev limit_of : Registered → ℕ → ℕ
-limit_of (Entry v b) z = b
-limit_of (Refused r) z = z
+abbrev limit_of : Result Entry Refusal → ℕ → ℕ
+limit_of (Ok y) z = y.limit
+limit_of (Err r) z = z
 
-module _ (x : ℤ) (e s : ℕ) (v : ℤ) (b : ℕ) (r : RegisteredAs x e s (Entry v b)) where
+module _ (x : ℤ) (e s : ℕ) (v : ℤ) (b : ℕ) (r : RegisteredAs x e s (entry_with v b)) where
   pub entered : v ≡ entry_value s x
-  entered = ap (λ (k : Registered). value_of k v) (r.entry refl)
+  entered = ap (λ (k : Result Entry Refusal). value_of k v) (r.entry refl)
 
   pub limited : b ≡ entry_bound s x e
-  limited = ap (λ (k : Registered). limit_of k b) (r.entry refl)
+  limited = ap (λ (k : Result Entry Refusal). limit_of k b) (r.entry refl)
 
 pub entry_rounded : document.EntryRounded
 entry_rounded x e s v b r = rw (entered x e s v b r) (entry_near s x)

@@ -13,11 +13,10 @@ use Rattle.integer.specs.Quotient.{ceil_div, round_div}
 use Rattle.integer.proofs.Search.{clash}
 use Rattle.linear.specs.Matrix.{apply, product, identity}
 use Rattle.rules.specs.Range.{ranges, range_of, in_range, all_in_range}
-use Rattle.rules.specs.declared.Outcome.TheVariants as outcome
+use Rattle.std.specs.Prelude.{Ok, Err}
 use Rattle.rules.specs.declared.Refusal.TheVariants.{TooShort, Missing}
 use Rattle.entry.specs.Entry.{entry_value, entry_bound}
-use Rattle.entry.specs.Register.{RegisteredAs}
-use Rattle.entry.specs.declared.Registered.TheVariants.{Entry}
+use Rattle.entry.specs.Register.{RegisteredAs, entry_with}
 use Rattle.enclosure.specs.Reckoning.{defect, load, margin, margin_fails, residual, row_sum, exceeds, magnitudes_with, bound_from, bound_with, bound, inverse_bound}
 use Rattle.check_spec.specs.Cases.{single, skewed, tolerant, case_input}
 use Rattle.check_spec.specs.Checked.{Checked, solution_after, inverse_after}
@@ -30,7 +29,7 @@ use Rattle.check_spec.proofs.Written.{checked_solution, checked_inverse}
 use Rattle.dependent_spec.specs.Example.{coupled_nets}
 use Rattle.dependent_spec.specs.Nets.{Nets, nets, dependent_of}
 use Rattle.dependent_spec.specs.Stated.{StatedDependent, too_short}
-use Rattle.dependent_spec.specs.declared.CheckedNets.TheVariants.{Dependent}
+use Rattle.dependent_spec.specs.declared.NetsRefusal.TheVariants.{Dependent}
 use Rattle.dependent_spec.proofs.Contract.{together_dependent}
 use Rattle.dependent_spec.proofs.Instance.{accepted_here}
 use Rattle.dependent_spec.proofs.Largest.{joint_none}
@@ -78,20 +77,20 @@ poor_limits : (bound (problem poor) 0 ≡ 0) × ((inverse_bound (problem poor) 0
 unfolding bound bound_with bound_from magnitudes_with residual margin load defect product apply identity sum sumℕ largest ceil_div
 poor_limits = (refl, (refl, refl))
 
-poor_checked : Checked poor outcome.Accepted heights inverses
+poor_checked : Checked poor (Ok tt) heights inverses
 poor_checked = checked_ready poor refl poor_inside (sym poor_code) refl refl
 
 pub not_accepted_leaves : wrong.AcceptedLeaves → ⊥
 not_accepted_leaves h =
     let kept : get_or heights 0 0 ≡ get_or poor.solution_bounds 0 0 =
-    ap (λ (l : List ℕ). get_or l 0 0) (h poor outcome.Accepted heights inverses poor_checked refl).0 in
-    let limit : get_or heights 0 0 ≡ 0 = checked_solution poor outcome.Accepted heights inverses poor_checked refl 0 (lit< tt) ∙ poor_limits.0 in
+    ap (λ (l : List ℕ). get_or l 0 0) (h poor (Ok tt) heights inverses poor_checked refl).0 in
+    let limit : get_or heights 0 0 ≡ 0 = checked_solution poor (Ok tt) heights inverses poor_checked refl 0 (lit< tt) ∙ poor_limits.0 in
     omega (arith, kept, limit)
 
 pub not_first_column_everywhere : wrong.FirstColumnEverywhere → ⊥
 not_first_column_everywhere h =
-    let status = h (problem poor) _ _ (on_lists poor outcome.Accepted heights inverses poor_checked refl) 0 1 (lit< tt) (lit< tt) ∙ poor_limits.1.0 in
-    let limit = checked_inverse poor outcome.Accepted heights inverses poor_checked refl 0 1 (lit< tt) (lit< tt) ∙ poor_limits.1.1 in
+    let status = h (problem poor) _ _ (on_lists poor (Ok tt) heights inverses poor_checked refl) 0 1 (lit< tt) (lit< tt) ∙ poor_limits.1.0 in
+    let limit = checked_inverse poor (Ok tt) heights inverses poor_checked refl 0 1 (lit< tt) (lit< tt) ∙ poor_limits.1.1 in
     let z : ◌≡◌ {A = ℕ} 0 2 = sym status ∙ limit in
     omega (arith, z)
 
@@ -105,7 +104,7 @@ lacking_lowest = record { below = lit< tt; here = refl; before = λ k l. absurd 
 
 pub not_margin_alone_is_5 : wrong.MarginAloneIs5 → ⊥
 not_margin_alone_is_5 h =
-    let status = h lacking_input (outcome.Refused TooShort) [] [] (checked_short lacking_input refl) 0 lacking_lowest in
+    let status = h lacking_input (Err TooShort) [] [] (checked_short lacking_input refl) 0 lacking_lowest in
     let z : ◌≡◌ {A = ℕ} 8 5 = ap (λ (l : List ℕ). get_or l 0 0) status in
     omega (arith, z)
 
@@ -144,7 +143,7 @@ loose_limit : bound (problem loose_input) 0 ≡ 48
 unfolding bound bound_with bound_from magnitudes_with residual margin load defect product apply identity sum sumℕ largest ceil_div
 loose_limit = refl
 
-loose_checked : Checked loose_input outcome.Accepted (solution_after (checked_of (problem loose_input)) loose_input) (inverse_after (checked_of (problem loose_input)) loose_input)
+loose_checked : Checked loose_input (Ok tt) (solution_after (checked_of (problem loose_input)) loose_input) (inverse_after (checked_of (problem loose_input)) loose_input)
 loose_checked = checked_ready loose_input refl loose_inside (sym loose_code) refl refl
 
 loose_zero : (nat_abs (sum 1 (λ (j : ℕ). (problem loose_input).G 0 j *ℤ residual (problem loose_input) j))) ≡ 0
@@ -154,8 +153,8 @@ loose_zero = refl
 pub not_limit_without_tolerance : wrong.LimitWithoutTolerance → ⊥
 unfolding largest ceil_div residual apply sum margin load defect product identity sumℕ
 not_limit_without_tolerance h =
-    let status = h (problem loose_input) _ _ (on_lists loose_input outcome.Accepted _ _ loose_checked refl) 0 (lit< tt) in
-    let limit = checked_solution loose_input outcome.Accepted _ _ loose_checked refl 0 (lit< tt) ∙ loose_limit in
+    let status = h (problem loose_input) _ _ (on_lists loose_input (Ok tt) _ _ loose_checked refl) 0 (lit< tt) in
+    let limit = checked_solution loose_input (Ok tt) _ _ loose_checked refl 0 (lit< tt) ∙ loose_limit in
     let z : ◌≡◌ {A = ℕ} 0 48 = sym status ∙ limit in
     omega (arith, z)
 
@@ -170,7 +169,7 @@ pub not_dependent_status_as_main : wrong.DependentStatusAsMain → ⊥
 not_dependent_status_as_main h =
     let short : StatedDependent (dependent_of torn) (8 ∷ []) = too_short refl in
     let x = together_dependent torn TooShort main_accepted (sym (code_of_dependent (dependent_of torn) short)) in
-    let status = h torn (Dependent TooShort) _ _ _ _ x 8 [] (subst (Stated coupled_nets.main) main_accepted (stated coupled_nets.main)) short in
+    let status = h torn (Err (Dependent TooShort)) _ _ _ _ x 8 [] (subst (Stated coupled_nets.main) main_accepted (stated coupled_nets.main)) short in
     let z : ◌≡◌ {A = ℕ} 2 1 = ap (λ (l : List ℕ). get_or l 0 0) status in
     omega (arith, z)
 
@@ -187,7 +186,7 @@ not_listing_one_longer h =
     omega (arith, status)
 
 -- ---- 8 of 16 steps to a unit: the entry is 1
-half_way : RegisteredAs (pos 8) 0 4 (Entry (entry_value 4 (pos 8)) (entry_bound 4 (pos 8) 0))
+half_way : RegisteredAs (pos 8) 0 4 (entry_with (entry_value 4 (pos 8)) (entry_bound 4 (pos 8) 0))
 unfolding in_range range_of ranges
 half_way = record { says = refl; entry = λ e. refl }
 
@@ -218,7 +217,7 @@ begun_code : line_answer begun_loader zeros (spell end) ≡ 13 ∷ 4 ∷ []
 unfolding missing lacking_in sumℕ
 begun_code = (line_exactly begun_loader zeros (spell end) begun_own (13 ∷ 4 ∷ [])).1 (forms_missing end begun_end refl refl refl)
 
-begun_taken : TakenAs begun_loader (spell end) zeros (record { loader = begun_loader; outcome = outcome.Refused (Missing 4) }) zeros
+begun_taken : TakenAs begun_loader (spell end) zeros (record { loader = begun_loader; outcome = Err (Missing 4) }) zeros
 begun_taken =
     let left = refused_leaves begun_loader zeros (spell end) begun_code in
     record { says = sym begun_code; loader = sym left.0; lists = sym left.1 }

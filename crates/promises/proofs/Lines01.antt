@@ -25,11 +25,10 @@ use Rattle.loader_progress.specs.Progress.{missing, set_of, ended, early, repeat
 use Rattle.loader_order.proofs.CodeLaws.{count_13}
 use Rattle.rules.specs.Refusal.{code}
 use Rattle.loader.specs.Answer.{case_of, line_answer}
-use Rattle.loader.specs.Taken.{TakenAs}
+use Rattle.loader.specs.Taken.{TakenAs, fresh}
 use Rattle.loader.specs.declared.Loader.{Loader}
 use Rattle.loader.specs.declared.Taken.{Taken}
 use Rattle.loader.proofs.Accepted.{accepted_form}
-use Rattle.loader.specs.Taken.{fresh}
 use Rattle.loader_runs.specs.Run.{State, forms}
 use Rattle.loader_runs.specs.Accepts.{Made}
 use Rattle.file_shape.specs.Given.{GivenBy}

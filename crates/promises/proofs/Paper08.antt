@@ -8,11 +8,10 @@ use Rattle.linear.proofs.Written.{front_at}
 use Rattle.check_spec.proofs.Fit.{Fit}
 use Rattle.check_spec.proofs.Written.{accepted_fit, solution_at, inverse_at}
 use Rattle.dependent_spec.specs.Nets.{Nets, dependent_of}
-use Rattle.dependent_spec.specs.Order.{nets_code, joint_answer}
+use Rattle.dependent_spec.specs.Order.{nets_code, joint_answer, CheckedNets}
 use Rattle.dependent_spec.specs.Reckoning.{dependent_residual, dependent_slack, dependent_bound}
 use Rattle.dependent_spec.specs.Stated.{StatedTogether, of_main, of_dependent}
 use Rattle.dependent_spec.specs.Together.{CheckedTogether}
-use Rattle.dependent_spec.specs.declared.CheckedNets.{CheckedNets}
 use Rattle.dependent_spec.proofs.Largest.{joint_none}
 use Rattle.dependent_spec.proofs.Statements.{own_fit, passed_of, stated_together, code_of_together}
 use Rattle.promises.specs.Paper08 as paper

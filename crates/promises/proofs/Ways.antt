@@ -8,8 +8,7 @@ use mathlib.Core.Path.{◌≡◌, refl, sym, ◌∙◌}
 use Prim.Native.Nat.{ℕ}
 use lib.ListN.{length}
 use Rattle.rules.specs.Order.{if_accepted}
-use Rattle.rules.specs.Refusal.{code}
-use Rattle.rules.specs.declared.Outcome.{Outcome}
+use Rattle.rules.specs.Refusal.{code, Outcome}
 use Rattle.rules.proofs.Verdicts.{nothing_is_not}
 use Rattle.enclosure.specs.Sound.{Sound}
 use Rattle.enclosure.specs.Problem.{Problem}

@@ -7,13 +7,11 @@ use Rattle.enclosure.specs.Demand.{NoTolerance, ExactSolution}
 use Rattle.enclosure.specs.Problem.{Problem, problem_of}
 use Rattle.enclosure.specs.Quality.{Factor, NeverFar}
 use Rattle.good_limits.specs.Good.{Good}
-use Rattle.quality_spec.specs.Answer.{quality_code, numerator_of, denominator_of, QualityAs}
+use Rattle.quality_spec.specs.Answer.{quality_code, numerator_of, denominator_of, QualityAs, Quality}
 use Rattle.quality_spec.specs.Inquiry.{Inquiry}
-use Rattle.quality_spec.specs.declared.Quality.{Quality}
 use Rattle.dependent_spec.specs.Nets.{Nets}
-use Rattle.dependent_spec.specs.Order.{nets_code}
+use Rattle.dependent_spec.specs.Order.{nets_code, CheckedNets}
 use Rattle.dependent_spec.specs.Together.{CheckedTogether}
-use Rattle.dependent_spec.specs.declared.CheckedNets.{CheckedNets}
 use Rattle.accepted_limits.specs.TwoNets.{GoodNets}
 use Rattle.loader_runs.specs.Holds.{ComputedSays}
 use Rattle.loader_runs.specs.Lines.{lines_of}

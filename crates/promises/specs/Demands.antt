@@ -2,9 +2,8 @@
 use Rattle.std.specs.Prelude.{true, false, List, [], ◌↔◌, ◌≡◌, ℕ, ◌<◌, pos, take}
 use Rattle.linear.specs.Matrix.{Vec, Mat}
 use Rattle.rules.specs.Range.{in_range}
-use Rattle.rules.specs.Refusal.{code}
+use Rattle.rules.specs.Refusal.{code, Outcome}
 use Rattle.rules.specs.declared.Kind.TheVariants.{Size}
-use Rattle.rules.specs.declared.Outcome.{Outcome}
 use Rattle.enclosure.specs.Problem.{Problem}
 use Rattle.enclosure.specs.Reckoning.{bound, inverse_bound}
 use Rattle.enclosure.specs.Demand.{Encloses, RoundedExact}

@@ -5,9 +5,8 @@ use Rattle.integer.specs.Among.{Among}
 use Rattle.linear.specs.Slice.{at}
 use Rattle.rules.specs.declared.Kind.TheVariants as kind
 use Rattle.build_lines.specs.Distinct.{distinct, total, touches, joins}
-use Rattle.build_lines.specs.Order.{build_code}
+use Rattle.build_lines.specs.Order.{build_code, Built}
 use Rattle.build_lines.specs.Stated.{BuildStated}
-use Rattle.build_lines.specs.declared.Built.{Built}
 use Rattle.build_lines.specs.declared.Observation.{Observation}
 use Rattle.build_equations.specs.declared.Layout.{Layout}
 use Rattle.build_equations.specs.declared.Layout.TheVariants.{Square}

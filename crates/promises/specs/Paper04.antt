@@ -5,8 +5,8 @@
 use Rattle.std.specs.Prelude.{◌≡◌, ℕ, ◌*◌}
 use Rattle.linear.specs.Place.{Carried, place_of}
 
--- "At each term it is shown to be the place that row and column give": what every term of a sum asks of its place (`Carried`), along row i and down column j. The
--- loops that sum (`dot` of the crate linear, and those of check_biased_rows, check_defects, check_residuals, check_margins and check_bounds) carry such places
+-- "At each term it is shown to be the place that row and column give": what the loops that sum say of their places (`Carried`), along row i and down column j: of
+-- the number that a loop carries, or of the start of the row whose slice it goes along
 abbrev pub CarriedIsPlace : Type 0
 CarriedIsPlace =
     (n i j k place : ℕ) →

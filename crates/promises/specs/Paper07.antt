@@ -8,9 +8,8 @@ use Rattle.enclosure.specs.Problem.{Problem, problem_of}
 use Rattle.enclosure.specs.Reckoning.{defect}
 use Rattle.weights_spec.specs.Promised.{SearchStated, UsableRequest, PlaceOfFirstGood, NoGood, allowing}
 use Rattle.weights_spec.specs.Request.{Request, search_problem}
-use Rattle.weights_spec.specs.Search.{search_code, count_of, passed, FoundAs}
+use Rattle.weights_spec.specs.Search.{search_code, count_of, passed, FoundAs, Found}
 use Rattle.weights_spec.specs.Sequence.{good, tried, weighted}
-use Rattle.weights_spec.specs.declared.Found.{Found}
 use Rattle.promises.specs.Ways.{RangeIs, Refused}
 
 -- "Begin with 1 everywhere"

@@ -10,11 +10,10 @@ use Rattle.enclosure.specs.Reckoning.{bound, inverse_bound, bound_with}
 use Rattle.check_spec.specs.Stated.{Stated}
 use Rattle.dependent_spec.specs.Joint.{main_problem, dependent_problem, JointSolution, WithinBoth}
 use Rattle.dependent_spec.specs.Nets.{Nets, dependent_of}
-use Rattle.dependent_spec.specs.Order.{nets_code}
+use Rattle.dependent_spec.specs.Order.{nets_code, CheckedNets}
 use Rattle.dependent_spec.specs.Reckoning.{dependent_residual, dependent_slack}
 use Rattle.dependent_spec.specs.Stated.{StatedDependent, StatedTogether}
 use Rattle.dependent_spec.specs.Together.{CheckedTogether}
-use Rattle.dependent_spec.specs.declared.CheckedNets.{CheckedNets}
 use Rattle.promises.specs.Ways.{Refused}
 
 -- "a hung net has equations A2·u2 = b2 − C·u1": `JointSolution` of dependent_spec/specs/Joint; "with C in the matrix range", "both nets at the same s":

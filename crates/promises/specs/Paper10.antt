@@ -2,14 +2,12 @@
 -- here.
 use Rattle.std.specs.Prelude.{false, List, [], ◌∷◌, ◌≡◌, ℕ, ◌+◌, ◌-◌, ◌*◌, ◌/◌, ◌≤◌, ◌<◌, ℤ, length}
 use Rattle.linear.specs.Slice.{at}
-use Rattle.rules.specs.Refusal.{code}
-use Rattle.rules.specs.declared.Outcome.{Outcome}
+use Rattle.rules.specs.Refusal.{code, Outcome}
 use Rattle.check_spec.specs.Checked.{Checked}
 use Rattle.check_spec.specs.Input.{Input}
 use Rattle.half_fill.specs.Half.{filled_out}
 use Rattle.half_check.specs.Checked.{filled_input, CheckedHalf}
-use Rattle.build_lines.specs.Order.{build_code}
-use Rattle.build_lines.specs.declared.Built.{Built}
+use Rattle.build_lines.specs.Order.{build_code, Built}
 use Rattle.build_lines.specs.declared.Observation.{Observation}
 use Rattle.build_equations.specs.declared.Layout.TheVariants.{Square, Lower}
 use Rattle.build.specs.BuiltAs.{short_for, BuiltAs}

@@ -4,18 +4,16 @@ use Rattle.std.specs.Prelude.{true, false, List, [], ◌∷◌, ◌↔◌, ◌�
 use Rattle.std.specs.Float.{fin}
 use Rattle.linear.specs.Matrix.{Vec}
 use Rattle.linear.specs.Slice.{at}
-use Rattle.rules.specs.Refusal.{code}
-use Rattle.rules.specs.declared.Outcome.{Outcome}
+use Rattle.rules.specs.Refusal.{code, Outcome}
 use Rattle.enclosure.specs.Demand.{RightSide, ExactSolutionOf}
 use Rattle.enclosure.specs.Problem.{Problem}
 use Rattle.doubles_guess.specs.Guess.{guess_for, has_guess, Nearest}
 use Rattle.doubles_guess.specs.Units.{whole, Double}
 use Rattle.doubles_interval.specs.Interval.{units_of, Outward}
 use Rattle.doubles_lists.specs.Hands.{Hands, AllBetween}
-use Rattle.doubles_lists.specs.Inward.{guesses_code, Incoming, short_incoming, GuessesOf}
+use Rattle.doubles_lists.specs.Inward.{guesses_code, Incoming, short_incoming, GuessesOf, Guessed}
 use Rattle.doubles_lists.specs.Lists.{double_at, exchange_sizes}
 use Rattle.doubles_lists.specs.Outward.{Outgoing, short_outgoing, outgoing_in_ranges, ends_in, IntervalsOf}
-use Rattle.doubles_lists.specs.declared.Guessed.{Guessed}
 use Rattle.promises.specs.Ways.{Refused, Accepted}
 
 -- "A double becomes a guess by rounding its exact value times S to a nearest whole number, halves away from zero"

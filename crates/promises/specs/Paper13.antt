@@ -5,12 +5,11 @@ use Rattle.linear.specs.Slice.{at}
 use Rattle.enclosure.specs.Demand.{RightSide, ExactSolutionOf}
 use Rattle.enclosure.specs.Reckoning.{bound}
 use Rattle.check_spec.specs.Input.{Input, problem}
-use Rattle.common_spec.specs.Answer.{common_code, CommonAs}
+use Rattle.common_spec.specs.Answer.{common_code, CommonAs, Common}
 use Rattle.common_spec.specs.Ends.{maxℤ, minℤ, WithinEnds}
 use Rattle.common_spec.specs.Promised.{OwnEnds}
 use Rattle.common_spec.specs.Proposals.{Proposals, proposals}
 use Rattle.common_spec.specs.Stated.{CommonStated}
-use Rattle.common_spec.specs.declared.Common.{Common}
 use Rattle.promises.specs.Ways.{Refused}
 
 -- "From two accepted proposals give each height's common interval, in the finer of the two steps: the larger lower end and the smaller upper end"

@@ -6,13 +6,12 @@ use Rattle.enclosure.specs.Demand.{NoTolerance}
 use Rattle.loader_spelled.specs.Ones.{text_of}
 use Rattle.listing.specs.Listing.{problem_in}
 use Rattle.listing.specs.Complete.{Complete}
-use Rattle.convert_spec.specs.Converted.{convert_code, length_of, ConvertedAs}
+use Rattle.convert_spec.specs.Converted.{convert_code, length_of, ConvertedAs, Converted}
 use Rattle.convert_spec.specs.Edition.{CompleteOld}
 use Rattle.convert_spec.specs.File.{parts_then, new_file}
 use Rattle.convert_spec.specs.Numbers.{SameNumbers}
 use Rattle.convert_spec.specs.Promised.{EqualChecks}
 use Rattle.convert_spec.specs.Stated.{ConvertStated}
-use Rattle.convert_spec.specs.declared.Converted.{Converted}
 use Rattle.promises.specs.Ways.{Refused}
 
 -- "A converter takes any file whose every line the desk accepts, end among them, and writes problem, scale, rows, right sides without tolerance, guesses, inverse

@@ -11,9 +11,8 @@ use Rattle.std.specs.Prelude.{Bool, true, false, ◌&&◌, List, [], ◌∷◌, 
 use Rattle.std.specs.Int.Signed.{le_z}
 use Rattle.rules.specs.Order.{Test}
 use Rattle.rules.specs.Range.{in_range}
-use Rattle.rules.specs.Refusal.{code}
+use Rattle.rules.specs.Refusal.{code, Outcome}
 use Rattle.rules.specs.declared.Kind.{Kind}
-use Rattle.rules.specs.declared.Outcome.{Outcome}
 use Rattle.enclosure.specs.Problem.{Problem}
 use Rattle.enclosure.specs.Reckoning.{bound, inverse_bound}
 use Rattle.check_spec.specs.Input.{Input, problem, short}

@@ -12,8 +12,8 @@ ghost use Rattle.quality_spec.specs.Inquiry.{inquiry, inquiry_short, inquiry_in_
 ghost use Rattle.quality_spec.specs.Answer.{QualityAs};
 
 use check_margins::first_zero;
-use integer::{magnitude, power};
-use quality_spec::Quality;
+use integer::power;
+use quality_spec::Fraction;
 use ranges::{are_lists_in_range, are_sizes_in_range};
 use rules::Refusal;
 use weights_steps::{defect_magnitudes, is_short, loads_of, margins_from};
@@ -27,8 +27,8 @@ fn weights_of(weights: &[i64], n: usize) -> [u64; 32]
     ensures { PrefixIs 0 result n (λ (m : ℕ). nat_abs (at weights.now m)) }
 {
     let mut out = [0u64; 32];
-    for m in 0..n {
-        out[m] = magnitude(weights[m]);
+    for (m, weight) in weights[..n].iter().enumerate() {
+        out[m] = weight.unsigned_abs();
     }
     out
 }
@@ -53,7 +53,7 @@ fn spread_of(t: u32, w: i64, g: u64) -> u64
     requires { (t ≤ 20) × ((nat_abs w ≤ 1024) × (g ≤ 2 ^ t * nat_abs w)) }
     ensures { result ≡ 2 * (2 ^ t * nat_abs w) - g }
 {
-    2 * (power(t) * magnitude(w)) - g
+    2 * (power(t) * w.unsigned_abs()) - g
 }
 
 // The same of all rows.
@@ -64,22 +64,13 @@ fn spreads_of(t: u32, weights: &[i64], margins: &[u64; 32], n: usize) -> [u64; 3
     ensures { PrefixIs 0 result n (λ (m : ℕ). 2 * (2 ^ t * nat_abs (at weights.now m)) - get_or margins.now m 0) }
 {
     let mut out = [0u64; 32];
-    for m in 0..n {
-        out[m] = spread_of(t, weights[m], margins[m]);
+    for (m, &weight) in weights[..n].iter().enumerate() {
+        out[m] = spread_of(t, weight, margins[m]);
     }
     out
 }
 
-// Whether p / g is larger than spread / margin, by products.
-fn is_larger_ratio(spread: u64, margin: u64, p: u64, g: u64) -> bool
-    requires spread_bound { (spread ≤ 2 ^ 31) × (g ≤ 2 ^ 31) }
-    requires p_bound { (p ≤ 2 ^ 31) × (margin ≤ 2 ^ 31) }
-    ensures { result ≡ ltb (spread * g) (p * margin) }
-{
-    spread * g < p * margin
-}
-
-// The lowest row where spreads / margins is largest.
+// The lowest row where spreads / margins is largest. What is sought is an index of both lists, so the loop counts one: a fold over the indices is no plainer.
 fn peak_of(spreads: &[u64; 32], margins: &[u64; 32], n: usize) -> usize
     requires n_nonzero { (0 < n) × (n ≤ 32) }
     requires by_index { (m : ℕ) → m < n → get_or spreads.now m 0 ≤ 2 ^ 31 }
@@ -88,7 +79,7 @@ fn peak_of(spreads: &[u64; 32], margins: &[u64; 32], n: usize) -> usize
 {
     let mut k = 0;
     for m in 1..n {
-        if is_larger_ratio(spreads[k], margins[k], spreads[m], margins[m]) {
+        if spreads[k] * margins[m] < spreads[m] * margins[k] {
             k = m;
         }
     }
@@ -96,7 +87,13 @@ fn peak_of(spreads: &[u64; 32], margins: &[u64; 32], n: usize) -> usize
 }
 
 // The factor of an inquiry that passes 8 and 3.
-fn rate(n: usize, t: u32, matrix: &[i64], inverse: &[i64], weights: &[i64]) -> Quality
+fn rate(
+    n: usize,
+    t: u32,
+    matrix: &[i64],
+    inverse: &[i64],
+    weights: &[i64],
+) -> Result<Fraction, Refusal>
     requires weights_value { inquiry_short (inquiry n t matrix.now inverse.now weights.now) ≡ false }
     requires weights_value_2 { inquiry_in_ranges (inquiry n t matrix.now inverse.now weights.now) ≡ true }
     ensures { QualityAs (inquiry n t matrix.now inverse.now weights.now) result }
@@ -104,25 +101,35 @@ fn rate(n: usize, t: u32, matrix: &[i64], inverse: &[i64], weights: &[i64]) -> Q
     let margins = margins_for(t, matrix, inverse, weights, n);
     let low = first_zero(&margins, n);
     if low < n {
-        return Quality::Refused(Refusal::Margin(low as u32 + 1));
+        return Err(Refusal::Margin(low as u32 + 1));
     }
     let spreads = spreads_of(t, weights, &margins, n);
     let k = peak_of(&spreads, &margins, n);
-    Quality::Factor(spreads[k], margins[k])
+    Ok(Fraction {
+        numerator: spreads[k],
+        denominator: margins[k],
+    })
 }
 
 // The largest (T·w_m + load_m) / margin_m over all rows. Order 8, 3, 5; no list is written.
-pub fn quality(n: u32, t: u32, matrix: &[i64], inverse: &[i64], weights: &[i64]) -> Quality
+pub fn quality(
+    n: u32,
+    t: u32,
+    matrix: &[i64],
+    inverse: &[i64],
+    weights: &[i64],
+) -> Result<Fraction, Refusal>
     ensures { QualityAs (inquiry n t matrix.now inverse.now weights.now) result }
 {
     if is_short(matrix.len(), inverse.len(), weights.len()) {
-        return Quality::Refused(Refusal::TooShort);
+        return Err(Refusal::TooShort);
     }
-    if are_sizes_in_range(n, t) {
-        let size = n as usize;
-        if are_lists_in_range(size, matrix, inverse, weights) {
-            return rate(size, t, matrix, inverse, weights);
-        }
+    if !are_sizes_in_range(n, t) {
+        return Err(Refusal::OutOfRange);
     }
-    Quality::Refused(Refusal::OutOfRange)
+    let size = n as usize;
+    if !are_lists_in_range(size, matrix, inverse, weights) {
+        return Err(Refusal::OutOfRange);
+    }
+    rate(size, t, matrix, inverse, weights)
 }

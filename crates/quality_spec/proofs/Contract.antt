@@ -28,11 +28,10 @@ use Rattle.enclosure.specs.Reckoning.{defect, load, margin, margin_fails}
 use Rattle.enclosure.specs.Quality.{Factor}
 use Rattle.check_spec.specs.Order.{first_margin}
 use Rattle.check_spec.proofs.Fit.{squared}
-use Rattle.quality_spec.specs.declared.Quality.{Quality}
-use Rattle.quality_spec.specs.declared.Quality.TheVariants as variant
+use Rattle.quality_spec.specs.Answer.{Quality, quality_code, numerator_of, denominator_of, quality_answer, numerator_after, denominator_after, QualityAs}
+use Rattle.std.specs.Prelude.{Ok, Err}
 use Rattle.quality_spec.specs.Peak.{numerator, denominator}
 use Rattle.quality_spec.specs.Inquiry.{Inquiry, inquiry_problem, inquiry_short, inquiry_in_ranges, inquiry_sizes, inquiry_lists}
-use Rattle.quality_spec.specs.Answer.{quality_code, numerator_of, denominator_of, quality_answer, numerator_after, denominator_after, QualityAs}
 use Rattle.quality_spec.proofs.Peak.{peak_factor, peak_least}
 
 -- ---- 8 and 3
@@ -119,18 +118,18 @@ module _ (Q : Inquiry) where
     least = λ z. absurd (nothing_is_not (sym s ∙ z));
   }
 
-  pub quality_short : inquiry_short Q ≡ true → QualityAs Q (variant.Refused TooShort)
-  quality_short e = refusal (variant.Refused TooShort) 8 [] refl (answer_short e) refl refl
+  pub quality_short : inquiry_short Q ≡ true → QualityAs Q (Err TooShort)
+  quality_short e = refusal (Err TooShort) 8 [] refl (answer_short e) refl refl
 
-  pub quality_range : inquiry_short Q ≡ false → inquiry_in_ranges Q ≡ false → QualityAs Q (variant.Refused OutOfRange)
-  quality_range e f = refusal (variant.Refused OutOfRange) 3 [] refl (answer_range e f) refl refl
+  pub quality_range : inquiry_short Q ≡ false → inquiry_in_ranges Q ≡ false → QualityAs Q (Err OutOfRange)
+  quality_range e f = refusal (Err OutOfRange) 3 [] refl (answer_range e f) refl refl
 
   -- m is the lowest row whose margin is 0 or less
   module _ (e : inquiry_short Q ≡ false) (f : inquiry_in_ranges Q ≡ true) (m : ℕ) (h : m ≡ first_margin (inquiry_problem Q)) where
-    pub quality_low : m < Q.n → QualityAs Q (variant.Refused (Margin (m + 1)))
-    quality_low l = refusal (variant.Refused (Margin (m + 1))) 5 ((m + 1) ∷ []) refl (answer_low e f m h l) refl refl
+    pub quality_low : m < Q.n → QualityAs Q (Err (Margin (m + 1)))
+    quality_low l = refusal (Err (Margin (m + 1))) 5 ((m + 1) ∷ []) refl (answer_low e f m h l) refl refl
 
-    pub quality_given : {a c : ℕ} → Q.n ≤ m → a ≡ numerator (inquiry_problem Q) → c ≡ denominator (inquiry_problem Q) → QualityAs Q (variant.Factor a c)
+    pub quality_given : {a c : ℕ} → Q.n ≤ m → a ≡ numerator (inquiry_problem Q) → c ≡ denominator (inquiry_problem Q) → QualityAs Q (Ok (record { numerator = a; denominator = c }))
     unfolding numerator_after denominator_after
     quality_given {a} {c} l x y =
         let P = inquiry_problem Q in

@@ -11,9 +11,8 @@ use Rattle.enclosure.specs.Problem.{Problem, column_of, problem_of}
 use Rattle.enclosure.specs.Demand.{ExactSolution, ExactSolutionOf, NoTolerance}
 use Rattle.enclosure.specs.Quality.{NeverFar}
 use Rattle.good_limits.specs.Good.{Good}
-use Rattle.quality_spec.specs.declared.Quality.{Quality}
+use Rattle.quality_spec.specs.Answer.{Quality, quality_code, numerator_of, denominator_of, QualityAs}
 use Rattle.quality_spec.specs.Inquiry.{Inquiry}
-use Rattle.quality_spec.specs.Answer.{quality_code, numerator_of, denominator_of, QualityAs}
 
 module _ (Q : Inquiry) (r : Quality) (x : QualityAs Q r) (z : quality_code r ≡ []) (s : ℕ) (right tolerance guess : List ℤ) where
   abbrev P : Problem

@@ -15,10 +15,9 @@ use Rattle.rules.proofs.AllInRange.{all_ext}
 use Rattle.enclosure.specs.Reckoning.{load, margin, margin_fails}
 use Rattle.enclosure.proofs.Agreement.{Agreeing, load_same, margin_same}
 use Rattle.check_spec.specs.Order.{first_margin}
-use Rattle.quality_spec.specs.declared.Quality.{Quality}
+use Rattle.quality_spec.specs.Answer.{Quality, quality_code, numerator_of, denominator_of, quality_answer, numerator_after, denominator_after, QualityAs}
 use Rattle.quality_spec.specs.Peak.{spread, peak_row, numerator, denominator}
 use Rattle.quality_spec.specs.Inquiry.{Inquiry, inquiry, inquiry_problem, inquiry_short, inquiry_in_ranges}
-use Rattle.quality_spec.specs.Answer.{quality_code, numerator_of, denominator_of, quality_answer, numerator_after, denominator_after, QualityAs}
 use Rattle.quality_spec.specs.Stated.{AgreeingInquiries}
 use Rattle.quality_spec.proofs.Contract.{fit_inquiry}
 use Rattle.quality_spec.proofs.Promises.{given_usable, given_margins}

@@ -1,32 +1,36 @@
 -- What a call for the factor says and gives: 8, 3, 5 in this order, 5 with its lowest row as a check gives it, or the factor.
+--   Quality       — the answer: the factor, or a refusal
 --   quality_code r — what an answer says: nothing where there is a factor, else the number of the refusal and its values
 --   numerator_of r, denominator_of r — the factor, where there is one; 0 on a refusal
 --   quality_order Q — the tests in their order, 8, 3, 5;  quality_answer Q — what is said of them
 --   numerator_after Q, denominator_after Q — the problem's (specs/Peak) where nothing is said; 0 on a refusal
 --   QualityAs     — the contract of `quality`: what is said, and the two numbers;
 --     and what they are worth where nothing is said: with any scale, right side, tolerance and guess they are a `Factor` of the problem, and none is smaller
-use Rattle.std.specs.Prelude.{not, List, [], ◌∷◌, ◌≡◌, ℕ, ◌+◌, ◌*◌, ◌≤◌, ltb, ℤ}
+use Rattle.std.specs.Prelude.{not, List, [], ◌∷◌, ◌≡◌, ℕ, ◌+◌, ◌*◌, ◌≤◌, ltb, ℤ, Result, Ok, Err}
 use Rattle.rules.specs.Order.{Test, number, verdict, if_accepted}
 use Rattle.rules.specs.Refusal.{number_of, values_of}
+use Rattle.rules.specs.declared.Refusal.{Refusal}
 use Rattle.enclosure.specs.Problem.{problem_of}
 use Rattle.enclosure.specs.Quality.{Factor}
 use Rattle.check_spec.specs.Order.{first_margin}
 use Rattle.quality_spec.specs.Peak.{numerator, denominator}
-use Rattle.quality_spec.specs.declared.Quality.{Quality}
-use Rattle.quality_spec.specs.declared.Quality.TheVariants as variant
+use Rattle.quality_spec.specs.declared.Fraction.{Fraction}
 use Rattle.quality_spec.specs.Inquiry.{Inquiry, inquiry_problem, inquiry_short, inquiry_in_ranges}
 
+abbrev pub Quality : Type 0
+Quality = Result Fraction Refusal
+
 abbrev pub quality_code : Quality → List ℕ
-quality_code (variant.Factor a c) = []
-quality_code (variant.Refused r) = number_of r ∷ values_of r
+quality_code (Ok f) = []
+quality_code (Err r) = number_of r ∷ values_of r
 
 abbrev pub numerator_of : Quality → ℕ
-numerator_of (variant.Factor a c) = a
-numerator_of (variant.Refused r) = 0
+numerator_of (Ok f) = f.numerator
+numerator_of (Err r) = 0
 
 abbrev pub denominator_of : Quality → ℕ
-denominator_of (variant.Factor a c) = c
-denominator_of (variant.Refused r) = 0
+denominator_of (Ok f) = f.denominator
+denominator_of (Err r) = 0
 
 abbrev pub quality_order : Inquiry → List Test
 quality_order Q =

@@ -1,12 +1,9 @@
 // What a call for the factor of the limits answers. Its code stands in the crate quality.
 #![tactic(auto)]
 
-use rules::Refusal;
-
+// The largest (T·w_m + load_m) / margin_m, as it stands in the lowest row where it is largest.
 #[derive(Clone, Copy)]
-pub enum Quality {
-    // numerator and denominator of the largest (T·w_m + load_m) / margin_m, as they stand in the lowest row where it is largest
-    Factor(u64, u64),
-    // 8, 3, or 5 with the lowest row
-    Refused(Refusal),
+pub struct Fraction {
+    pub numerator: u64,
+    pub denominator: u64,
 }

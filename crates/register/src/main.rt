@@ -1,10 +1,10 @@
 // The program: a file on standard input, its listing on standard output.
 #![tactic(auto)]
 
-ghost use Rattle.std.specs.Prelude.{◌≤◌, ◌≡◌};
+ghost use Rattle.std.specs.Prelude.{◌≡◌};
 ghost use Rattle.listing.specs.Listing.{listing_of};
 
-use program_input::{BytesRead, fill, skip_rest};
+use program_input::read_front;
 use std::io::Stderr;
 
 fn report(errors: Stderr, text: &[u8]) {
@@ -20,26 +20,17 @@ fn write_listing(rt: &HostRuntime, file: &[u8], bytes: &[u8])
     }
 }
 
-// The listing of the first n bytes read, which decide the whole file.
-fn print_listing(rt: &HostRuntime, text: [u8; 65536], n: usize)
-    requires { n ≤ 65536 }
-{
+// The listing of the bytes read, which decide the whole file.
+fn print_listing(rt: &HostRuntime, file: &[u8]) {
     let mut out = [0u8; 32768];
-    let k = listing::listing(&text[..n], &mut out);
-    write_listing(rt, &text[..n], &out[..k]);
+    let k = listing::listing(file, &mut out);
+    write_listing(rt, file, &out[..k]);
 }
 
 fn main(rt: HostRuntime) {
-    let mut input = rt.stdin();
     let mut text = [0u8; 65536];
-    match fill(&mut input, &mut text) {
-        BytesRead::Failed => report(rt.stderr(), b"register: the input could not be read\n"),
-        BytesRead::Bytes(n) => {
-            if skip_rest(&mut input) {
-                print_listing(&rt, text, n);
-            } else {
-                report(rt.stderr(), b"register: the input could not be read\n");
-            }
-        }
+    match read_front(&mut rt.stdin(), &mut text) {
+        Ok(n) => print_listing(&rt, &text[..n]),
+        Err(_) => report(rt.stderr(), b"register: the input could not be read\n"),
     }
 }

@@ -2,8 +2,7 @@
 --   FinishedStatus — the number of an answer that `Finished` holds of, with both lists as there; and the line that was refused while the
 --                  lines were gathered, 0 where none was
 use Rattle.std.specs.Prelude.{List, ◌≡◌, ℕ, ℤ, get_or}
-use Rattle.build_lines.specs.declared.Built.{Built}
-use Rattle.build_lines.specs.Order.{build_code}
+use Rattle.build_lines.specs.Order.{Built, build_code}
 use Rattle.build_gathering.specs.declared.Gathered.{Gathered}
 use Rattle.build_gathering.specs.Gathered.{line_number_of}
 use Rattle.build_equations.specs.declared.Layout.{Layout}

@@ -7,9 +7,9 @@ ghost use Rattle.listing_refusal.specs.Refused.{printed};
 ghost use Rattle.listing_refusal.specs.Reply.{reply_of};
 ghost use Rattle.build_lines.specs.Order.{build_code};
 
-use build_lines::Built;
+use build_lines::BuildRefusal;
 use listing_refusal::{Reply, no_refusal, reply_of};
-use rules::{Outcome, Refusal};
+use rules::Refusal;
 
 pub mod builds;
 pub mod conversions;
@@ -20,12 +20,24 @@ pub mod proposals;
 pub mod searches;
 
 // The answer of an outcome; a refusal that gives its number alone leaves both places 0.
-pub fn outcome_reply(outcome: Outcome) -> Reply
+pub fn outcome_reply(outcome: Result<(), Refusal>) -> Reply
     ensures { result ≡ reply_of (printed 0 (code outcome)) }
 {
     match outcome {
-        Outcome::Accepted => no_refusal(),
-        Outcome::Refused(refusal) => reply_of(refusal, 0),
+        Ok(()) => no_refusal(),
+        Err(refusal) => reply_of(refusal, 0),
+    }
+}
+
+// A refusal that gives its number alone.
+fn alone(number: u32) -> Reply
+    ensures { result ≡ reply_of (number ∷ 0 ∷ []) }
+{
+    Reply {
+        number,
+        count: 1,
+        first: 0,
+        second: 0,
     }
 }
 
@@ -46,13 +58,13 @@ fn refused_number(refusal: Refusal) -> u32
 }
 
 // The number of the answer to field lines, 0 where the equations are built.
-pub fn built_number(built: Built) -> u32
+pub fn built_number(built: Result<(), BuildRefusal>) -> u32
     ensures { result ≡ get_or (build_code built) 0 0 }
 {
     match built {
-        Built::Done => 0,
-        Built::Refused(refusal) => refused_number(refusal),
-        Built::SameMark => 16,
-        Built::OtherContents => 17,
+        Ok(()) => 0,
+        Err(BuildRefusal::Refused(refusal)) => refused_number(refusal),
+        Err(BuildRefusal::SameMark) => 16,
+        Err(BuildRefusal::OtherContents) => 17,
     }
 }

@@ -1,28 +1,15 @@
 -- Laws of `all_in_range`: those of `every` (proofs/Every), for ranges.
---   all_none, all_next, all_end — at none, at n + 1 and at the end, for loops
 --   all_at, all_in — each of the numbers is in range, and the converse
 --   all_ext        — equal numbers are alike
 use mathlib.Core.Path.{◌≡◌, ap}
-use mathlib.Core.Bool.{true, ◌&&◌}
-use Prim.Native.Nat.{ℕ, ◌+◌, ◌<◌, ◌≤◌}
+use mathlib.Core.Bool.{true}
+use Prim.Native.Nat.{ℕ, ◌<◌}
 use lib.IntN.{ℤ}
 use Rattle.rules.specs.declared.Kind.{Kind}
 use Rattle.rules.specs.Range.{in_range, all_in_range}
-use Rattle.rules.proofs.Every.{every_none, every_next, every_end, every_at, every_in, every_ext}
+use Rattle.rules.proofs.Every.{every_at, every_in, every_ext}
 
 module _ (k : Kind) where
-  pub all_none : (f : ℕ → ℤ) → all_in_range k 0 f ≡ true
-  unfolding all_in_range
-  all_none f = every_none (λ (i : ℕ). in_range k (f i))
-
-  pub all_next : (n : ℕ) (f : ℕ → ℤ) → all_in_range k (n + 1) f ≡ in_range k (f n) && all_in_range k n f
-  unfolding all_in_range
-  all_next n f = every_next n (λ (i : ℕ). in_range k (f i))
-
-  pub all_end : {i n : ℕ} (f : ℕ → ℤ) → i ≤ n → n ≤ i → all_in_range k i f ≡ all_in_range k n f
-  unfolding all_in_range
-  all_end f = every_end (λ (i : ℕ). in_range k (f i))
-
   pub all_at : (n : ℕ) (f : ℕ → ℤ) → all_in_range k n f ≡ true → (i : ℕ) → i < n → in_range k (f i) ≡ true
   unfolding all_in_range
   all_at n f = every_at n (λ (i : ℕ). in_range k (f i))

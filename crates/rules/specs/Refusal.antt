@@ -1,10 +1,9 @@
 -- Document 01's number for each refusal, with the places or the count that it names; rows and columns are counted from 1.
 --   number_of r — the number of the refusal r
 --   values_of r — the places or the count that it gives: a row for 5 and 6, column and row for 7, the count of missing forms for 13
+--   Outcome    — acceptance with nothing beside it, or a refusal
 --   code o     — what an outcome says: nothing where it is accepted, else the number and then the values
-use Rattle.std.specs.Prelude.{List, [], ◌∷◌, ℕ}
-use Rattle.rules.specs.declared.Outcome.{Outcome}
-use Rattle.rules.specs.declared.Outcome.TheVariants.{Accepted, Refused}
+use Rattle.std.specs.Prelude.{List, [], ◌∷◌, ℕ, Result, Ok, Err, ⊤}
 use Rattle.rules.specs.declared.Refusal.{Refusal}
 use Rattle.rules.specs.declared.Refusal.TheVariants.{TooLong, NoForm, OutOfRange, WrongCount, Margin, Residual, InverseResidual, TooShort, TooEarly, Repeated, Missing, AfterEnd, NotEnded}
 
@@ -38,6 +37,9 @@ values_of (Missing count) = count ∷ []
 values_of AfterEnd = []
 values_of NotEnded = []
 
+abbrev pub Outcome : Type 0
+Outcome = Result ⊤ Refusal
+
 abbrev pub code : Outcome → List ℕ
-code Accepted = []
-code (Refused r) = number_of r ∷ values_of r
+code (Ok done) = []
+code (Err r) = number_of r ∷ values_of r

@@ -1,8 +1,7 @@
 // The ranges of document 01 and of 02's Papers 7, 5 and 3, and 01's refusals.
 #![tactic(auto)]
 
-ghost use Rattle.std.specs.Prelude.{◌≡◌, ◌&&◌, ℕ, ◌<◌, ◌≤◌, pos, get_or, length};
-ghost use Rattle.std.specs.Int.Signed.{le_z};
+ghost use Rattle.std.specs.Prelude.{◌≡◌, ℕ, ◌<◌, ◌≤◌, pos, get_or, length};
 ghost use Rattle.rules.specs.Range.{index_of, range_of, in_range, all_in_range};
 
 // What a number stands for; each kind has its own range (01: "Every form has its own range").
@@ -33,7 +32,7 @@ pub struct Range {
     pub highest: i64,
 }
 
-// In the order of `Kind`.
+// In the order of `Kind`. A constant table is the form that document 01 names.
 const RANGES: [Range; 14] = [
     // Size
     Range {
@@ -143,12 +142,7 @@ pub enum Refusal {
     NotEnded,
 }
 
-#[derive(Clone, Copy)]
-pub enum Outcome {
-    Accepted,
-    Refused(Refusal),
-}
-
+// `kind as usize` in place of this was tried: that the number of each kind is its line is not found then.
 fn index_of(kind: Kind) -> usize
     ensures { (result ≡ index_of kind) × (result < 14) }
 {
@@ -177,29 +171,19 @@ pub fn range_of(kind: Kind) -> Range
     RANGES[index_of(kind)]
 }
 
-// Whether lowest ≤ x ≤ highest.
-fn is_between(x: i64, lowest: i64, highest: i64) -> bool
-    ensures { result ≡ le_z lowest x && le_z x highest }
-{
-    if lowest <= x {
-        return x <= highest;
-    }
-    false
-}
-
 // Whether x is a number of that kind's range.
 pub fn is_in_range(kind: Kind, x: i64) -> bool
     ensures { result ≡ in_range kind x }
 {
     let range = range_of(kind);
-    is_between(x, range.lowest, range.highest)
+    range.lowest <= x && x <= range.highest
 }
 
 // The same of a natural number.
 pub fn is_natural_in_range(kind: Kind, x: u32) -> bool
     ensures { result ≡ in_range kind (pos x) }
 {
-    is_in_range(kind, x as i64)
+    is_in_range(kind, i64::from(x))
 }
 
 // Whether the first n numbers of a list all are.
@@ -207,9 +191,5 @@ pub fn all_in_range(kind: Kind, xs: &[i64], n: usize) -> bool
     requires { n ≤ length xs.now }
     ensures { result ≡ all_in_range kind n (λ (i : ℕ). get_or xs.now i (pos 0)) }
 {
-    let mut all = true;
-    for i in 0..n {
-        all = is_in_range(kind, xs[i]) & all;
-    }
-    all
+    xs[..n].iter().all(|&x| is_in_range(kind, x))
 }

@@ -3,11 +3,9 @@ ghost use Rattle.std.specs.Prelude.{◌≤◌};
 
 use crate::held::{less_where, marked, marked_matrix};
 use crate::lent::build_first;
-use crate::print::{
-    magnitude_of, print_column, print_matrix, print_number, print_refusal, print_text,
-};
+use crate::print::{print_list, print_number, print_refusal, print_text};
 use build_equations::Layout;
-use build_lines::{Built, Observation};
+use build_lines::{BuildRefusal, Observation};
 use line_numeral::Number;
 use std::io::Stdout;
 
@@ -27,45 +25,23 @@ struct Lines {
 // The answer, and both lists afterwards.
 #[derive(Clone, Copy)]
 struct BuiltLists {
-    built: Built,
+    built: Result<(), BuildRefusal>,
     matrix: [i64; 1024],
     right: [i64; 32],
 }
 
-fn no_lines() -> [Observation; 320] {
-    [Observation {
-        key: 0,
-        from: 0,
-        to: 0,
-        difference: 0,
-        weight: 0,
-    }; 320]
-}
-
-// The index after the byte at an index, up to the end.
-fn after(at: usize, length: usize) -> usize {
-    if at < length { at + 1 } else { length }
-}
-
-// A number, and the index after the space behind it.
+// A number, and the index after the space behind it, up to the end.
 fn number_from(text: &[u8], at: usize) -> Number {
     let number = line_numeral::number_at(text, at);
     Number {
         value: number.value,
-        next: after(number.next, text.len()),
+        next: text.len().min(number.next.saturating_add(1)),
     }
 }
 
 // A number as one that is never negative, as near as may be.
 fn natural(x: i64) -> u32 {
-    if x < 0 {
-        return 0;
-    }
-    let magnitude = magnitude_of(x);
-    if magnitude > 4294967295 {
-        return 4294967295;
-    }
-    magnitude as u32
+    x.clamp(0, 4294967295) as u32
 }
 
 fn line_from(text: &[u8], at: usize) -> Placed {
@@ -90,14 +66,19 @@ fn line_from(text: &[u8], at: usize) -> Placed {
 fn lines_from(text: &[u8], start: usize) -> Lines
     ensures { result.count ≤ 320 }
 {
-    let mut lines = no_lines();
+    let mut lines = [Observation {
+        key: 0,
+        from: 0,
+        to: 0,
+        difference: 0,
+        weight: 0,
+    }; 320];
     let mut count = 0;
     let mut at = start;
     for i in 0..320 {
         if at < text.len() {
             let placed = line_from(text, at);
-            let line = placed.line;
-            lines[i] = line;
+            lines[i] = placed.line;
             at = placed.next;
             count = i + 1;
         }
@@ -110,12 +91,12 @@ fn shown_of(n: u32) -> usize {
     if n < 6 { 26 } else { 1024 }
 }
 
-fn print_built(output: Stdout, built: Built) {
+fn print_built(output: Stdout, built: Result<(), BuildRefusal>) {
     match built {
-        Built::Done => print_text(output, b"built"),
-        Built::Refused(refusal) => print_refusal(output, refusal),
-        Built::SameMark => print_number(output, 16),
-        Built::OtherContents => print_number(output, 17),
+        Ok(()) => print_text(output, b"built"),
+        Err(BuildRefusal::Refused(refusal)) => print_refusal(output, refusal),
+        Err(BuildRefusal::SameMark) => print_number(output, 16),
+        Err(BuildRefusal::OtherContents) => print_number(output, 17),
     }
 }
 
@@ -147,14 +128,10 @@ pub fn print_build(output: Stdout, name: u8, text: &[u8]) {
     let size = number_from(text, 0);
     let n = natural(size.value);
     let read = lines_from(text, size.next);
-    let lines = read.lines;
-    let after = built_of(name, n, lines, read.count);
-    let built = after.built;
-    let matrix = after.matrix;
-    let right = after.right;
-    print_built(output, built);
-    print_matrix(output, matrix, shown_of(n));
+    let after = built_of(name, n, read.lines, read.count);
+    print_built(output, after.built);
+    print_list(output, &after.matrix, shown_of(n));
     print_text(output, b" right");
-    print_column(output, right, 32);
+    print_list(output, &after.right, 32);
     print_text(output, b"\n");
 }

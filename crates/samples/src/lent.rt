@@ -4,7 +4,7 @@ ghost use Rattle.build.specs.BuiltAs.{BuiltAs};
 
 use build::build;
 use build_equations::Layout;
-use build_lines::{Built, Observation};
+use build_lines::{BuildRefusal, Observation};
 
 // The equations of the first lines of an array, the matrix in its layout.
 pub fn build_first(
@@ -14,7 +14,7 @@ pub fn build_first(
     layout: Layout,
     matrix: &mut [i64],
     right: &mut [i64],
-) -> Built
+) -> Result<(), BuildRefusal>
     requires { count ≤ 320 }
     ensures { BuiltAs n (take count lines) layout matrix.old right.old result matrix.new right.new }
 {

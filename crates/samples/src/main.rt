@@ -16,7 +16,7 @@
 ghost use Rattle.std.specs.Prelude.{◌≡◌, ◌≤◌, length};
 
 use building::print_build;
-use held::{Loaded, fresh, taken};
+use held::{Loaded, fresh, take};
 use print::{print_answer, print_text};
 use read::{print_line, print_listing};
 use show::print_of;
@@ -36,6 +36,7 @@ fn script_buffer() -> [u8; 262144]
 }
 
 // Reads until the buffer is full, the input ends or a read fails; gives how many bytes were read.
+// `program_input::fill` does not serve: it gives no count where a read fails, and what came before that is run here.
 fn read_full(input: &mut Stdin, buf: &mut [u8]) -> usize
     ensures { result ≤ length buf.new }
 {
@@ -65,42 +66,35 @@ fn main(rt: HostRuntime) {
 fn run(output: Stdout, text: &[u8]) {
     let mut held = fresh();
     let mut from = 0usize;
-    let mut i = 0usize;
-    while i < text.len() {
-        if text[i] == 255 {
-            held = entry(output, held, &text[from..i]);
+    for (i, &byte) in text.iter().enumerate() {
+        if byte == 255 {
+            run_entry(output, &mut held, &text[from..i]);
             from = i + 1;
         }
-        i += 1;
     }
 }
 
-fn entry(output: Stdout, held: Loaded, text: &[u8]) -> Loaded {
-    if 1 < text.len() {
-        if text[0] == 254 {
-            return command(output, held, text[1], &text[2..]);
+fn run_entry(output: Stdout, held: &mut Loaded, text: &[u8]) {
+    match text {
+        [254, name, rest @ ..] => run_command(output, held, *name, rest),
+        _ => print_taken(output, held, text, b'-'),
+    }
+}
+
+fn print_taken(output: Stdout, held: &mut Loaded, line: &[u8], short: u8) {
+    take(held, line, short);
+    print_answer(output, held.outcome);
+}
+
+fn run_command(output: Stdout, held: &mut Loaded, name: u8, rest: &[u8]) {
+    match name {
+        b'n' => *held = fresh(),
+        0..=b'5' => print_taken(output, held, rest, name),
+        _ => {
+            print_given(output, name, rest);
+            print_of(output, held, name, rest);
         }
     }
-    print_taken(output, held, text, b'-')
-}
-
-fn print_taken(output: Stdout, held: Loaded, line: &[u8], short: u8) -> Loaded {
-    let next = taken(held, line, short);
-    let outcome = next.outcome;
-    print_answer(output, outcome);
-    next
-}
-
-fn command(output: Stdout, held: Loaded, name: u8, rest: &[u8]) -> Loaded {
-    if name == b'n' {
-        return fresh();
-    }
-    if name < b'6' {
-        return print_taken(output, held, rest, name);
-    }
-    print_given(output, name, rest);
-    print_of(output, held, name, rest);
-    held
 }
 
 // A command on the rest of its entry alone.

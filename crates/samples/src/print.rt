@@ -1,6 +1,6 @@
 // Answers, lists and numbers on standard output.
 use crate::held::{Limits, UNWRITTEN};
-use rules::{Outcome, Refusal};
+use rules::Refusal;
 use std::io::Stdout;
 
 pub fn print_text(output: Stdout, text: &[u8]) {
@@ -12,22 +12,22 @@ pub fn print_number(output: Stdout, x: u64) {
 }
 
 // An answer by itself on a line.
-pub fn print_answer(output: Stdout, outcome: Outcome) {
+pub fn print_answer(output: Stdout, outcome: Result<(), Refusal>) {
     print_outcome(output, outcome);
     print_text(output, b"\n");
 }
 
-fn print_outcome(output: Stdout, outcome: Outcome) {
+fn print_outcome(output: Stdout, outcome: Result<(), Refusal>) {
     match outcome {
-        Outcome::Accepted => print_text(output, b"accepted"),
-        Outcome::Refused(refusal) => print_refusal(output, refusal),
+        Ok(()) => print_text(output, b"accepted"),
+        Err(refusal) => print_refusal(output, refusal),
     }
 }
 
 // 01's number, and the places or the count that it gives: each is 1 or more.
 pub fn print_refusal(output: Stdout, refusal: Refusal) {
     let reply = listing_refusal::reply_of(refusal, 0);
-    print_number(output, reply.number as u64);
+    print_number(output, u64::from(reply.number));
     print_given(output, reply.first);
     print_given(output, reply.second);
 }
@@ -40,53 +40,27 @@ fn print_given(output: Stdout, x: u64) {
 }
 
 // A number after a space.
-pub fn print_signed(output: Stdout, x: i64) {
-    if x < 0 {
-        print_text(output, b" -");
-    } else {
-        print_text(output, b" ");
-    }
-    print_number(output, magnitude_of(x));
+fn print_signed(output: Stdout, x: i64) {
+    print_text(output, b" ");
+    let _ = output.print(x);
 }
 
-pub fn magnitude_of(x: i64) -> u64 {
-    if x < -9223372036854775807 {
-        return 9223372036854775808;
-    }
-    integer::magnitude(x)
-}
-
-pub fn print_column(output: Stdout, l: [i64; 32], count: usize) {
-    print_list(output, &l, count);
-}
-
-pub fn print_matrix(output: Stdout, l: [i64; 1024], count: usize) {
-    print_list(output, &l, count);
-}
-
-fn print_list(output: Stdout, l: &[i64], count: usize) {
-    for i in 0..count {
-        if i < l.len() {
-            print_signed(output, l[i]);
-        }
+// The first numbers of a list, each after a space.
+pub fn print_list(output: Stdout, l: &[i64], count: usize) {
+    for &x in l.iter().take(count) {
+        print_signed(output, x);
     }
 }
 
-// Limits; a dash where none was written.
+// The first limits of a list; a dash where none was written.
 fn print_bounds(output: Stdout, bounds: &[u64], count: usize) {
-    for i in 0..count {
-        if i < bounds.len() {
-            print_bound(output, bounds[i]);
-        }
-    }
-}
-
-fn print_bound(output: Stdout, bound: u64) {
-    if bound == UNWRITTEN {
-        print_text(output, b" -");
-    } else {
+    for &bound in bounds.iter().take(count) {
         print_text(output, b" ");
-        print_number(output, bound);
+        if bound == UNWRITTEN {
+            print_text(output, b"-");
+        } else {
+            print_number(output, bound);
+        }
     }
 }
 
@@ -99,13 +73,10 @@ pub fn print_checked(
     inverse_name: &[u8],
     inverses: usize,
 ) {
-    let outcome = checked.outcome;
-    let solution = checked.solution;
-    let inverse = checked.inverse;
-    print_outcome(output, outcome);
+    print_outcome(output, checked.outcome);
     print_text(output, solution_name);
-    print_bounds(output, &solution, solutions);
+    print_bounds(output, &checked.solution, solutions);
     print_text(output, inverse_name);
-    print_bounds(output, &inverse, inverses);
+    print_bounds(output, &checked.inverse, inverses);
     print_text(output, b"\n");
 }

@@ -12,46 +12,44 @@ ghost use Rattle.weights_search.specs.Reached.{SearchedTo};
 
 use ranges::{are_lists_in_range, are_sizes_in_range};
 use rules::Refusal;
-use weights_spec::Found;
+use weights_spec::SearchRefusal;
 use weights_steps::{defect_magnitudes, is_good, is_short, loads_of, next_weights};
 
 mod ranges;
 
-// How many lists were passed over, and the list at which the search stopped.
+// The first good list, and how many lists were passed over before it.
 #[derive(Clone, Copy)]
-pub struct Last {
+pub struct FirstGood {
     pub passed: u32,
     pub weights: [u64; 32],
 }
 
 // Tries one list after another, up to the first good one or to the allowance; |D| is worked out once.
-fn search(t: u32, matrix: &[i64], inverse: &[i64], n: usize, allowance: u32) -> Last
+fn search(t: u32, matrix: &[i64], inverse: &[i64], n: usize, allowance: u32) -> Option<FirstGood>
     requires t_bound { (t ≤ 20) × (n ≤ 32) }
     requires matrix_list { MatrixList matrix.now n × MatrixList inverse.now n }
     ensures { SearchedTo (problem_of n 0 t matrix.now [] [] [] inverse.now []) allowance result }
 {
     let magnitudes = defect_magnitudes(t, matrix, inverse, n);
     let mut weights = [1u64; 32];
-    let mut passed = 0;
-    while passed < allowance {
+    for passed in 0..allowance {
         let loads = loads_of(&magnitudes, &weights, n);
         if is_good(t, &loads, &weights, n) {
-            return Last { passed, weights };
+            return Some(FirstGood { passed, weights });
         }
         weights = next_weights(&loads, n);
-        passed += 1;
     }
-    Last { passed, weights }
+    None
 }
 
 // Writes the first n weights.
-fn write_weights(dst: &mut [i64], list: [u64; 32], n: usize)
+fn write_weights(dst: &mut [i64], list: &[u64; 32], n: usize)
     requires n_bound { (n ≤ 32) × (n ≤ length dst.old) }
-    requires below { Below list n 1024 }
-    ensures { dst.new ≡ written dst.old 0 1 (λ (i : ℕ). pos (get_or list i 0)) n }
+    requires below { Below list.now n 1024 }
+    ensures { dst.new ≡ written dst.old 0 1 (λ (i : ℕ). pos (get_or list.now i 0)) n }
 {
-    for i in 0..n {
-        dst[i] = list[i] as i64;
+    for (i, &weight) in list[..n].iter().enumerate() {
+        dst[i] = weight as i64;
     }
 }
 
@@ -63,19 +61,14 @@ fn find_ready(
     inverse: &[i64],
     allowance: u32,
     weights: &mut [i64],
-) -> Found
+) -> Result<u32, SearchRefusal>
     requires weights_value { search_short (request n t matrix.now inverse.now allowance weights.old) ≡ false }
     requires weights_value_2 { search_in_ranges (request n t matrix.now inverse.now allowance weights.old) ≡ true }
     ensures { FoundAs (request n t matrix.now inverse.now allowance weights.old) result weights.new }
 {
-    let end = search(t, matrix, inverse, n, allowance);
-    let passed = end.passed;
-    if passed < allowance {
-        let list = end.weights;
-        write_weights(weights, list, n);
-        return Found::Tried(passed + 1);
-    }
-    Found::NoneGood
+    let found = search(t, matrix, inverse, n, allowance).ok_or(SearchRefusal::NoneGood)?;
+    write_weights(weights, &found.weights, n);
+    Ok(found.passed + 1)
 }
 
 // Weights found by the program. Order 8, 3, 18; a refusal leaves the weight list as it was.
@@ -86,17 +79,18 @@ pub fn find_weights(
     inverse: &[i64],
     allowance: u32,
     weights: &mut [i64],
-) -> Found
+) -> Result<u32, SearchRefusal>
     ensures { FoundAs (request n t matrix.now inverse.now allowance weights.old) result weights.new }
 {
     if is_short(matrix.len(), inverse.len(), weights.len()) {
-        return Found::Refused(Refusal::TooShort);
+        return Err(Refusal::TooShort.into());
     }
-    if are_sizes_in_range(n, t, allowance) {
-        let size = n as usize;
-        if are_lists_in_range(size, matrix, inverse) {
-            return find_ready(size, t, matrix, inverse, allowance, weights);
-        }
+    if !are_sizes_in_range(n, t, allowance) {
+        return Err(Refusal::OutOfRange.into());
     }
-    Found::Refused(Refusal::OutOfRange)
+    let size = n as usize;
+    if !are_lists_in_range(size, matrix, inverse) {
+        return Err(Refusal::OutOfRange.into());
+    }
+    find_ready(size, t, matrix, inverse, allowance, weights)
 }

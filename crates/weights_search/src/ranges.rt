@@ -1,4 +1,5 @@
-// Whether the numbers of a request can be used: 3.
+// Whether the numbers of a request can be used: 3. The tests of quality are of other kinds and lists; one function over a list of kinds and numbers is no
+// plainer, since every kind and number is named there just the same.
 ghost use Rattle.std.specs.Prelude.{◌≡◌, ◌≤◌, length};
 ghost use Rattle.weights_spec.specs.Request.{search_sizes, search_lists};
 
@@ -9,8 +10,8 @@ pub fn are_sizes_in_range(n: u32, t: u32, allowance: u32) -> bool
     ensures { result ≡ search_sizes n t allowance }
 {
     is_natural_in_range(Kind::Size, n)
-        & (is_natural_in_range(Kind::InverseScale, t)
-            & is_natural_in_range(Kind::Allowance, allowance))
+        && is_natural_in_range(Kind::InverseScale, t)
+        && is_natural_in_range(Kind::Allowance, allowance)
 }
 
 // 3 for the numbers of the lists that are used.
@@ -18,8 +19,6 @@ pub fn are_lists_in_range(n: usize, matrix: &[i64], inverse: &[i64]) -> bool
     requires { (n ≤ 32) × ((1024 ≤ length matrix.now) × (1024 ≤ length inverse.now)) }
     ensures { result ≡ search_lists n matrix.now inverse.now }
 {
-    if all_in_range(Kind::Matrix, matrix, n * n) {
-        return all_in_range(Kind::Inverse, inverse, n * n);
-    }
-    false
+    let size = n * n;
+    all_in_range(Kind::Matrix, matrix, size) && all_in_range(Kind::Inverse, inverse, size)
 }

@@ -14,9 +14,8 @@ use Rattle.check_spec.specs.Input as check
 use Rattle.check_spec.specs.Order as checking
 use Rattle.check_spec.specs.Stated.{Stated, too_short, out_of_range, margin_low, residual_large, inverse_large, accepted}
 use Rattle.check_spec.proofs.Statements.{stated}
-use Rattle.weights_spec.specs.declared.Found.{Found}
+use Rattle.weights_spec.specs.Search.{Found, search_code, FoundAs}
 use Rattle.weights_spec.specs.Request.{Request}
-use Rattle.weights_spec.specs.Search.{search_code, FoundAs}
 
 five : (I : check.Input) {w : List ℕ} → Stated I w → Margins (check.problem I) → (l : List ℕ) → w ≡ 5 ∷ l → ⊥
 five I (too_short e) h l z = let y : ◌≡◌ {A = ℕ} 8 5 = cc in omega arith

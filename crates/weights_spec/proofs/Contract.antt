@@ -24,11 +24,11 @@ use Rattle.rules.proofs.Ranges.{both_left, both_right, neither_left, neither_rig
 use Rattle.rules.proofs.Verdicts.{accepted_new, accepted_old, nothing_is_not}
 use Rattle.check_arrays.specs.Arrays.{PrefixIs}
 use Rattle.check_spec.proofs.Fit.{squared}
-use Rattle.weights_spec.specs.declared.Found.{Found}
-use Rattle.weights_spec.specs.declared.Found.TheVariants.{Tried, Refused, NoneGood}
+use Rattle.weights_spec.specs.Search.{Found, search_code, count_of, passed, search_answer, count_after, weights_after, FoundAs}
+use Rattle.weights_spec.specs.declared.SearchRefusal.TheVariants.{Refused, NoneGood}
+use Rattle.std.specs.Prelude.{Ok, Err}
 use Rattle.weights_spec.specs.Sequence.{tried}
 use Rattle.weights_spec.specs.Request.{Request, search_problem, search_short, search_in_ranges, search_sizes, search_lists}
-use Rattle.weights_spec.specs.Search.{search_code, count_of, passed, search_answer, count_after, weights_after, FoundAs}
 use Rattle.weights_spec.proofs.Listed.{listed_inside, listed_margins}
 
 -- ---- 8 and 3
@@ -101,19 +101,19 @@ module _ (Q : Request) where
     inside = λ z. absurd (nothing_is_not (sym s ∙ z));
   }
 
-  pub found_short : search_short Q ≡ true → FoundAs Q (Refused TooShort) Q.weights
-  found_short e = refusal (Refused TooShort) 8 [] refl (answer_short e) refl
+  pub found_short : search_short Q ≡ true → FoundAs Q (Err (Refused TooShort)) Q.weights
+  found_short e = refusal (Err (Refused TooShort)) 8 [] refl (answer_short e) refl
 
-  pub found_range : search_short Q ≡ false → search_in_ranges Q ≡ false → FoundAs Q (Refused OutOfRange) Q.weights
-  found_range e f = refusal (Refused OutOfRange) 3 [] refl (answer_range e f) refl
+  pub found_range : search_short Q ≡ false → search_in_ranges Q ≡ false → FoundAs Q (Err (Refused OutOfRange)) Q.weights
+  found_range e f = refusal (Err (Refused OutOfRange)) 3 [] refl (answer_range e f) refl
 
   -- p lists were passed over
   module _ (e : search_short Q ≡ false) (f : search_in_ranges Q ≡ true) (p : ℕ) (h : p ≡ passed Q) where
-    pub found_none : Q.allowance ≤ p → FoundAs Q NoneGood Q.weights
-    found_none l = refusal NoneGood 18 [] refl (answer_none e f (omega arith)) refl
+    pub found_none : Q.allowance ≤ p → FoundAs Q (Err NoneGood) Q.weights
+    found_none l = refusal (Err NoneGood) 18 [] refl (answer_none e f (omega arith)) refl
 
     -- the first good list is written
-    first_written : passed Q < Q.allowance → FoundAs Q (Tried (passed Q + 1)) (written Q.weights 0 1 (λ (i : ℕ). pos (tried (search_problem Q) (passed Q) i)) Q.n)
+    first_written : passed Q < Q.allowance → FoundAs Q (Ok (passed Q + 1)) (written Q.weights 0 1 (λ (i : ℕ). pos (tried (search_problem Q) (passed Q) i)) Q.n)
     unfolding count_after weights_after
     first_written l =
         let a = answer_found e f l in
@@ -127,7 +127,7 @@ module _ (Q : Request) where
         }
 
     pub found_list : {list : List ℕ} {weights : List ℤ} → p < Q.allowance → PrefixIs 0 list Q.n (tried (search_problem Q) p) →
-        weights ≡ written Q.weights 0 1 (λ (i : ℕ). pos (get_or list i 0)) Q.n → FoundAs Q (Tried (p + 1)) weights
+        weights ≡ written Q.weights 0 1 (λ (i : ℕ). pos (get_or list i 0)) Q.n → FoundAs Q (Ok (p + 1)) weights
     found_list {list} {weights} l b w =
         let same : weights ≡ written Q.weights 0 1 (λ (i : ℕ). pos (tried (search_problem Q) (passed Q) i)) Q.n =
         w

@@ -23,9 +23,8 @@ use Rattle.rules.specs.declared.Kind.TheVariants as kind
 use Rattle.rules.proofs.Ranges.{in_allowance_range}
 use Rattle.rules.proofs.Verdicts.{nothing_is_not, accepted_new}
 use Rattle.weights_spec.specs.Sequence.{loads, tried}
-use Rattle.weights_spec.specs.declared.Found.{Found}
+use Rattle.weights_spec.specs.Search.{Found, search_code, count_of, passed, search_answer, count_after, weights_after, FoundAs}
 use Rattle.weights_spec.specs.Request.{Request, search_problem, search_short, search_in_ranges, search_lists}
-use Rattle.weights_spec.specs.Search.{search_code, count_of, passed, search_answer, count_after, weights_after, FoundAs}
 use Rattle.weights_spec.specs.Promised.{UsableRequest, SearchStated, is_8, is_3, is_18, is_0, PlaceOfFirstGood, NoGood, allowing}
 use Rattle.weights_spec.proofs.Contract.{fit_request, answer_short, answer_range, answer_found, answer_none}
 use Rattle.weights_spec.proofs.First as first

@@ -22,10 +22,9 @@ use Rattle.rules.proofs.Verdicts.{accepted_new}
 use Rattle.enclosure.specs.Problem.{Problem}
 use Rattle.enclosure.specs.Reckoning.{margin_fails}
 use Rattle.enclosure.proofs.Agreement.{Agreeing, load_same, margin_same}
-use Rattle.weights_spec.specs.declared.Found.{Found}
+use Rattle.weights_spec.specs.Search.{Found, search_code, count_of, passed, search_answer, count_after, weights_after, FoundAs}
 use Rattle.weights_spec.specs.Sequence.{weighted, loads, bits, next, tried, good, first_good}
 use Rattle.weights_spec.specs.Request.{Request, request, search_problem, search_short, search_in_ranges}
-use Rattle.weights_spec.specs.Search.{search_code, count_of, passed, search_answer, count_after, weights_after, FoundAs}
 use Rattle.weights_spec.specs.Promised.{AgreeingRequests}
 use Rattle.weights_spec.proofs.Contract.{fit_request}
 use Rattle.weights_spec.proofs.Listed.{listed_at}

@@ -1,6 +1,7 @@
 -- What a search for weights says and leaves. Document 02, Paper 7: "The finder reports how many lists it tried, which is the place of the first good
 -- one in this sequence. [..] (8 first, then 3, also if the allowance is outside 1 to 64. New 18, after 3, if none of the allowed lists is good; the weight
 -- list is then untouched.)"
+--   Found      — the answer: how many lists were tried, or a refusal
 --   search_code r — what an answer says: nothing where a good list was found, else the number of the refusal and its values
 --   count_of r  — how many lists were tried, where one was found; 0 on a refusal
 --   passed Q   — how many lists of the sequence stand before the first good one; the allowance where none of the allowed lists is good
@@ -9,7 +10,7 @@
 --   weights_after Q — the weight list after the call: the first good list at its first n places, the rest as before; all as before on a refusal
 --   FoundAs    — the contract of `find_weights`: what is said, the tried count and the weight list;
 --     and what the list handed back is worth: with any scale, right side and guess every margin is above 0, and its weights are in their range
-use Rattle.std.specs.Prelude.{true, not, List, [], ◌∷◌, ◌≡◌, ℕ, ◌+◌, leb, ℤ, pos}
+use Rattle.std.specs.Prelude.{true, not, List, [], ◌∷◌, ◌≡◌, ℕ, ◌+◌, leb, ℤ, pos, Result, Ok, Err}
 use Rattle.linear.specs.Slice.{at}
 use Rattle.linear.specs.Written.{written}
 use Rattle.rules.specs.Order.{Test, number, verdict, if_accepted}
@@ -19,19 +20,22 @@ use Rattle.rules.specs.declared.Kind.TheVariants as kind
 use Rattle.enclosure.specs.Sound.{Margins}
 use Rattle.enclosure.specs.Problem.{problem_of}
 use Rattle.weights_spec.specs.Sequence.{tried, first_good}
-use Rattle.weights_spec.specs.declared.Found.{Found}
-use Rattle.weights_spec.specs.declared.Found.TheVariants.{Tried, Refused, NoneGood}
+use Rattle.weights_spec.specs.declared.SearchRefusal.{SearchRefusal}
+use Rattle.weights_spec.specs.declared.SearchRefusal.TheVariants.{Refused, NoneGood}
 use Rattle.weights_spec.specs.Request.{Request, search_problem, search_short, search_in_ranges}
 
+abbrev pub Found : Type 0
+Found = Result ℕ SearchRefusal
+
 abbrev pub search_code : Found → List ℕ
-search_code (Tried count) = []
-search_code (Refused r) = number_of r ∷ values_of r
-search_code NoneGood = 18 ∷ []
+search_code (Ok count) = []
+search_code (Err (Refused r)) = number_of r ∷ values_of r
+search_code (Err NoneGood) = 18 ∷ []
 
 abbrev pub count_of : Found → ℕ
-count_of (Tried count) = count
-count_of (Refused r) = 0
-count_of NoneGood = 0
+count_of (Ok count) = count
+count_of (Err (Refused r)) = 0
+count_of (Err NoneGood) = 0
 
 abbrev pub passed : Request → ℕ
 passed Q = first_good (search_problem Q) Q.allowance

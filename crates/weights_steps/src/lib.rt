@@ -14,7 +14,7 @@ ghost use Rattle.weights_steps.specs.Steps.{Below, stored_load, stored_margin, s
 use check_biased_rows::{ROWS_LENGTH, bias_rows};
 use check_defects::inverse_residuals_of;
 use check_margins::first_zero;
-use integer::{larger, magnitude, power};
+use integer::{magnitude, power};
 use rules::{COLUMN_LENGTH, MATRIX_LENGTH};
 
 // 8: whether a matrix list, an inverse or a weight list of these lengths is too short.
@@ -25,6 +25,7 @@ pub fn is_short(a: usize, g: usize, w: usize) -> bool
 }
 
 // |D|, column after column: T·I − G·A is what the residuals of an inverse are with the two matrices exchanged.
+// The loop goes by number: n·n may be the end of a range, and no part of an index (tests/places.py).
 pub fn defect_magnitudes(t: u32, matrix: &[i64], inverse: &[i64], n: usize) -> [u64; 1024]
     requires t_bound { (t ≤ 20) × (n ≤ 32) }
     requires matrix_list { MatrixList matrix.now n × MatrixList inverse.now n }
@@ -41,33 +42,7 @@ pub fn defect_magnitudes(t: u32, matrix: &[i64], inverse: &[i64], n: usize) -> [
     out
 }
 
-// One term of a sum: sum + d·w.
-fn weigh(sum: u64, d: u64, w: u64) -> u64
-    requires { (sum ≤ 2 ^ 62) × ((d ≤ 2 ^ 46) × (w ≤ 1024)) }
-    ensures { result ≡ sum + d * w }
-{
-    sum + d * w
-}
-
-// Term j of a sum, where d is number m of column j of |D|, by way of the place that was carried to it.
-fn weigh_at(
-    sum: u64,
-    magnitudes: &[u64; 1024],
-    n: usize,
-    m: usize,
-    place: usize,
-    w: u64,
-    j: usize,
-) -> u64
-    requires carried { Carried m n j place }
-    requires m_bound { (j * n + m < 1024) × (get_or magnitudes.now (j * n + m) 0 ≤ 2 ^ 46) }
-    requires sum_bound { (sum ≤ 2 ^ 62) × (w ≤ 1024) }
-    ensures { result ≡ sum + get_or magnitudes.now (j * n + m) 0 * w }
-{
-    weigh(sum, magnitudes[place], w)
-}
-
-// The sum over j of |D_mj|·w_j; the place is carried from column to column.
+// The sum over j of |D_mj|·w_j; the place is carried from column to column (02, Paper 4: "no term multiplies it out from row and column").
 fn load_of(magnitudes: &[u64; 1024], weights: &[u64; 32], n: usize, m: usize) -> u64
     requires n_bound { (n ≤ 32) × (m < n) }
     requires below { Below magnitudes.now (n * n) (2 ^ 46) × Below weights.now n 1024 }
@@ -75,14 +50,15 @@ fn load_of(magnitudes: &[u64; 1024], weights: &[u64; 32], n: usize, m: usize) ->
 {
     let mut sum: u64 = 0;
     let mut place = m;
-    for j in 0..n {
-        sum = weigh_at(sum, magnitudes, n, m, place, weights[j], j);
+    for &w in &weights[..n] {
+        sum += magnitudes[place] * w;
         place += n;
     }
     sum
 }
 
-// The sums of all rows.
+// The sums of all rows. The loops here and in `margins_from` go by row: `load_of` takes its number, and two lists are read at it, where `zip` and `enumerate`
+// are no plainer.
 pub fn loads_of(magnitudes: &[u64; 1024], weights: &[u64; 32], n: usize) -> [u64; 32]
     requires n_bound { n ≤ 32 }
     requires below { Below magnitudes.now (n * n) (2 ^ 46) × Below weights.now n 1024 }
@@ -100,8 +76,7 @@ fn cut(t: u32, w: u64, load: u64) -> u64
     requires { (t ≤ 20) × (w ≤ 1024) }
     ensures { result ≡ 2 ^ t * w - load }
 {
-    let full = power(t) * w;
-    if load < full { full - load } else { 0 }
+    (power(t) * w).saturating_sub(load)
 }
 
 // The margins of all rows.
@@ -130,9 +105,9 @@ fn largest_of(loads: &[u64; 32], n: usize) -> u64
     requires { n ≤ 32 }
     ensures { result ≡ largest n (λ (m : ℕ). get_or loads.now m 0) }
 {
-    let mut best = 0;
-    for m in 0..n {
-        best = larger(best, loads[m]);
+    let mut best: u64 = 0;
+    for &load in &loads[..n] {
+        best = best.max(load);
     }
     best
 }
@@ -141,13 +116,7 @@ fn largest_of(loads: &[u64; 32], n: usize) -> u64
 fn bits_of(u: u64) -> u32
     ensures { result ≡ bits u }
 {
-    let mut rest = u;
-    let mut count = 0;
-    while 1023 < rest {
-        rest /= 2;
-        count += 1;
-    }
-    count
+    u64::BITS - (u >> 10).leading_zeros()
 }
 
 // The list after one with these sums: each shifted right by one count of bits for all rows, plus 1.
@@ -157,8 +126,8 @@ pub fn next_weights(loads: &[u64; 32], n: usize) -> [u64; 32]
 {
     let count = bits_of(largest_of(loads, n));
     let mut out = [0u64; 32];
-    for i in 0..n {
-        out[i] = (loads[i] >> count) + 1;
+    for (i, &load) in loads[..n].iter().enumerate() {
+        out[i] = (load >> count) + 1;
     }
     out
 }

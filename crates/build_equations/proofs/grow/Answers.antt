@@ -1,47 +1,50 @@
-use mir.Val.{SFits}
-use Rattle.build_equations.proofs.Terms.{right_room, grown_to, grown_from}
-use Rattle.integer.proofs.Machine.{read}
-use mir.ValLaws.{to_z-of_z}
+use mathlib.Core.Path.{◌≡◌}
+use Prim.Native.Nat.{◌≤◌, ◌^◌}
+use native.Mathlib.Omega.{arith}
+use lib.IntN.{pos, nat_abs, ◌*ℤ◌}
 use mir.Syntax.{w64}
-use mathlib.Core.Path.{◌∙◌}
-use Rattle.std.proofs.Common.{rules}
+use mir.Val.{to_z, of_z}
+use mir.ValLaws.{to_z_pos, to_z-of_z}
+use Rattle.integer.proofs.Machine.{small}
+use Rattle.build_gathering.specs.Gathered.{Proper}
+use Rattle.build_equations.specs.Kept.{SmallRow}
+use Rattle.build_equations.proofs.Terms.{product_magnitude, product_read, plus_read, minus_read, grown_to, grown_from}
 use Rattle.build_equations.proofs.grow.Goals as goal
-use Rattle.build_equations.proofs.grow.Goals.{After-product_of-product, Start}
+use Rattle.build_equations.proofs.grow.Goals.{Start}
 
-pub plus-requires : goal.plus-requires
-plus-requires c =
-    let q = (goal.at.plus-requires c).After-product_of-product in
-    let s = (goal.at.plus-requires c).Start in
-    let p = q.product_of-product in
-    let f : SFits w64 s.args.row.right = search rules in
-    right_room s.args.row s.requires.k_bound.1.1 s.args.l s.requires.k_bound.1.0 (to_z-of_z w64 s.args.row.right f) (read _ p.type_inv ∙ p.ensures)
+-- the numbers as the machine reads them
+module _ (s : Start) where
+  proper : Proper s.args.l
+  proper = s.requires.k_bound.1.0
+
+  room : SmallRow s.args.row
+  room = s.requires.k_bound.1.1
+
+  weight_is : to_z w64 s.args.l.weight ≡ pos s.args.l.weight
+  weight_is = to_z_pos w64 s.args.l.weight (omega (arith, proper.weight))
+
+  product_is : to_z w64 (of_z w64 (to_z w64 s.args.l.weight *ℤ to_z w64 (of_z w64 s.args.l.difference))) ≡ pos s.args.l.weight *ℤ s.args.l.difference
+  product_is = product_read s.args.l proper weight_is (to_z-of_z w64 s.args.l.difference (small _ (omega (arith, proper.difference))))
+
+  right_is : to_z w64 (of_z w64 s.args.row.right) ≡ s.args.row.right
+  right_is = to_z-of_z w64 s.args.row.right (small _ (omega (arith, room.right)))
+
+  right_fits : nat_abs s.args.row.right ≤ 2 ^ 31
+  right_fits = omega (arith, room.right)
+
+  product_fits : nat_abs (pos s.args.l.weight *ℤ s.args.l.difference) ≤ 2 ^ 31
+  product_fits = omega (arith, product_magnitude s.args.l proper)
 
 pub returns-then-l-k : goal.returns-then-l-k
 returns-then-l-k c =
-    let q = (goal.at.returns-then-l-k c).After-product_of-product in
     let s = (goal.at.returns-then-l-k c).Start in
-    let p = q.product_of-product in
-    let w = q.weight_of-weight in
-    let f : SFits w64 s.args.row.right = search rules in
-    grown_to s.args.k s.args.l s.requires.k_bound.1.0 s.requires.k_bound.0 s.args.row s.requires.k_bound.1.1.long c.if-l-k.true
-    (rw (read _ w.type_inv, w.ensures) at c.join.ensures)
-    (read _ c.plus.type_inv ∙ (rw (to_z-of_z w64 s.args.row.right f, read _ p.type_inv, p.ensures) at c.plus.ensures))
-
-pub minus-requires : goal.minus-requires
-minus-requires c =
-    let q = (goal.at.minus-requires c).After-product_of-product in
-    let s = (goal.at.minus-requires c).Start in
-    let p = q.product_of-product in
-    let f : SFits w64 s.args.row.right = search rules in
-    right_room s.args.row s.requires.k_bound.1.1 s.args.l s.requires.k_bound.1.0 (to_z-of_z w64 s.args.row.right f) (read _ p.type_inv ∙ p.ensures)
+    grown_to c.args.k c.args.l (proper s) c.requires.k_bound.0 c.args.row (room s).long c.if-l-k.true
+    (rw (weight_is s) at c.join.ensures)
+    (plus_read (right_is s) (product_is s) (right_fits s) (product_fits s))
 
 pub returns : goal.returns
 returns c =
-    let q = (goal.at.returns c).After-product_of-product in
     let s = (goal.at.returns c).Start in
-    let p = q.product_of-product in
-    let w = q.weight_of-weight in
-    let f : SFits w64 s.args.row.right = search rules in
-    grown_from s.args.k s.args.l s.requires.k_bound.1.0 s.requires.k_bound.0 s.args.row s.requires.k_bound.1.1.long c.if-l-k.false s.requires.l_value
-    (rw (read _ w.type_inv, w.ensures) at c.join-2.ensures)
-    (read _ c.minus.type_inv ∙ (rw (to_z-of_z w64 s.args.row.right f, read _ p.type_inv, p.ensures) at c.minus.ensures))
+    grown_from c.args.k c.args.l (proper s) c.requires.k_bound.0 c.args.row (room s).long c.if-l-k.false c.requires.l_value
+    (rw (weight_is s) at c.join-2.ensures)
+    (minus_read (right_is s) (product_is s) (right_fits s) (product_fits s))

@@ -1,4 +1,3 @@
-use Rattle.build_gathering.specs.Gathered.{together}
 use Rattle.build_equations.specs.Kept.{kept_matrix, kept_right}
 use Rattle.build_equations.specs.Written.{width_of, rows_written}
 use Rattle.integer.specs.Finite.{sumℕ}
@@ -10,4 +9,4 @@ use Rattle.build_equations.proofs.write_equations.Given as goal
 
 abbrev pub invariant-loop-i : goal.invariant-loop-i
 invariant-loop-i l = (l.i ≤ l.n) × (l.start ≡ sumℕ l.i (width_of l.layout l.n)) × (length l.matrix ≡ length l.initial.matrix) × (length l.right ≡ length l.initial.right)
-    × (l.matrix ≡ rows_written (width_of l.layout l.n) l.i (kept_matrix (together l.progress l.seen)) l.initial.matrix) × (l.right ≡ written l.initial.right 0 1 (kept_right (together l.progress l.seen)) l.i)
+    × (l.matrix ≡ rows_written (width_of l.layout l.n) l.i (kept_matrix l.g) l.initial.matrix) × (l.right ≡ written l.initial.right 0 1 (kept_right l.g) l.i)

@@ -1,6 +1,5 @@
 use mathlib.Core.Path.{◌∙◌}
 use native.Mathlib.Omega.{arith}
-use Rattle.linear.specs.Slice.{at}
 use Rattle.linear.proofs.Carried.{start_place, carried_next}
 use Rattle.check_biased_rows.proofs.Filling.{rows_more}
 use Rattle.check_biased_rows.proofs.bias_all.Goals as goal

@@ -1,11 +1,10 @@
 use mathlib.Core.Path.{◌≡◌}
-use Prim.Native.Nat.{ℕ, ◌*◌, ◌≤◌}
+use Prim.Native.Nat.{ℕ, ◌*◌}
 use lib.IntN.{nat_abs}
-use lib.ListN.{get_or}
+use lib.ListN.{get_or, length}
 use Rattle.integer.specs.Finite.{sumℕ}
-use Rattle.linear.specs.Place.{Carried}
 use Rattle.check_biased_rows.specs.Biased.{unbiased_rows}
 use Rattle.check_bounds.proofs.slack_of.Given as goal
 
-abbrev pub invariant-loop-j : goal.invariant-loop-j
-invariant-loop-j l = (l.j ≤ l.n) × (Carried l.row 1 l.j l.place × (l.sum ≡ sumℕ l.j (λ (k : ℕ). nat_abs (unbiased_rows l.rows l.n l.m k) * get_or l.slacks k 0)))
+abbrev pub invariant-loop-x : goal.invariant-loop-x
+invariant-loop-x l = l.sum ≡ sumℕ (length l.yielded) (λ (k : ℕ). nat_abs (unbiased_rows l.rows l.n l.m k) * get_or l.slacks k 0)

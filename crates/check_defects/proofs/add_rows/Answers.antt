@@ -1,4 +1,4 @@
-use mathlib.Core.Path.{◌≡◌, refl, sym, ap, ◌∙◌}
+use mathlib.Core.Path.{◌≡◌, refl, sym, ◌∙◌}
 use Prim.Native.Nat.{ℕ, ◌+◌, ◌*◌, ◌≤◌, ◌<◌, ◌^◌}
 use native.Mathlib.Omega.{arith}
 use lib.IntN.{ℤ, nat_abs, ◌+ℤ◌}
@@ -11,10 +11,11 @@ use Rattle.integer.proofs.Machine.{small}
 use Rattle.integer.proofs.Sum.{sum_none, sum_next}
 use Rattle.linear.specs.Slice.{at}
 use Rattle.linear.proofs.Carried.{carried_first, carried_next}
-use Rattle.check_defects.proofs.Halves.{read_at}
+use lib.Dec.{lit<}
+use Rattle.linear.proofs.Slices.{reach_read}
 use Rattle.check_defects.proofs.Sums.{sums_none, sums_more, sums_room, total_small}
 use Rattle.check_defects.proofs.add_rows.Goals as goal
-use Rattle.check_defects.proofs.add_rows.Goals.{After-number_at-x, In-loop-k, Start}
+use Rattle.check_defects.proofs.add_rows.Goals.{In-loop-k, Start}
 
 abbrev start : In-loop-k → Start
 start t = (goal.at.In-loop-k t).Start
@@ -40,16 +41,14 @@ module _ (t : In-loop-k) where
         t.requires.reach.magnitudes t.loop-k.k t.loop-k-test.true,
       ))
 
-x-is : (c : After-number_at-x) → to_z w64 (of_z w64 c.number_at-x.result) ≡ X (goal.at.After-number_at-x c).Start c.loop-k.k
-x-is c =
-    let t = (goal.at.After-number_at-x c).In-loop-k in
-    ap (λ (z : ℤ). to_z w64 (of_z w64 z)) c.number_at-x.ensures ∙ read_at t.args.xs.now refl (t.requires.reach.magnitudes t.loop-k.k t.loop-k-test.true)
+  x-is : to_z w64 (of_z w64 (at t.args.xs.now t.loop-k.from)) ≡ X (goal.at.In-loop-k t).Start t.loop-k.k
+  x-is = reach_read t.requires.reach (lit< tt) t.loop-k.invariant.1.0.0 t.loop-k-test.true
 
 pub loop-k-init : goal.loop-k-init
 loop-k-init c = (omega arith, ((carried_first _ _, carried_first _ _), (rw (sum_none _), (c.requires.no_sums.long, sums_none _ _ _ c.requires.no_sums))))
 
 pub overflow_add-total : goal.overflow_add-total
-overflow_add-total c = let x = (goal.at.overflow_add-total c).After-number_at-x in let t = (goal.at.overflow_add-total c).In-loop-k in rw (t.loop-k.invariant.1.1.0, x-is (goal.at.overflow_add-total c).After-number_at-x) (total-fits (goal.at.overflow_add-total c).In-loop-k)
+overflow_add-total c = let t = (goal.at.overflow_add-total c).In-loop-k in rw (t.loop-k.invariant.1.1.0, x-is t) (total-fits (goal.at.overflow_add-total c).In-loop-k)
 
 pub loop-k-preserved : goal.loop-k-preserved
 loop-k-preserved c =
@@ -59,10 +58,10 @@ loop-k-preserved c =
       (
         (carried_next l.invariant.1.0.0, carried_next l.invariant.1.0.1),
         (
-          rw (l.invariant.1.1.0, x-is (goal.at.loop-k-preserved c).After-number_at-x) (to_z-of_z w64 _ (total-fits (goal.at.loop-k-preserved c).In-loop-k) ∙ sym (sum_next _ _)),
+          rw (l.invariant.1.1.0, x-is t) (to_z-of_z w64 _ (total-fits (goal.at.loop-k-preserved c).In-loop-k) ∙ sym (sum_next _ _)),
           (
             c.add_multiple.ensures.long ∙ l.invariant.1.1.1.0,
-            sums_more _ _ _ l.k l.invariant.1.1.1.1 (x-is (goal.at.loop-k-preserved c).After-number_at-x) (λ j. refl) c.add_multiple.ensures,
+            sums_more _ _ _ l.k l.invariant.1.1.1.1 (x-is t) (λ j. refl) c.add_multiple.ensures,
           ),
         ),
       ),

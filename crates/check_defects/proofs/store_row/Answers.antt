@@ -13,7 +13,6 @@ use Rattle.linear.proofs.Carried.{carried_first, carried_next}
 use Rattle.linear.proofs.Written.{written_none, written_more}
 use Rattle.check_biased_rows.specs.Biased.{bias}
 use Rattle.check_biased_rows.specs.Place.{biased_place}
-use Rattle.check_defects.specs.Difference.{number_less}
 use Rattle.check_defects.proofs.Sums.{ups_small, downs_small, biased_small, unit_up, unit_small, sums_less}
 use Rattle.check_defects.proofs.store_row.Goals as goal
 use Rattle.check_defects.proofs.store_row.Goals.{After-add_rows, After-way_told-1, In-loop-j, Start}

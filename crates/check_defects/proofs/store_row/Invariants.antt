@@ -2,7 +2,6 @@ use mathlib.Core.Path.{◌≡◌}
 use Prim.Native.Nat.{ℕ, ◌≤◌}
 use Rattle.linear.specs.Place.{Carried}
 use Rattle.linear.specs.Written.{written}
-use Rattle.linear.proofs.Places.{place}
 use Rattle.check_defects.specs.Difference.{number_less}
 use Rattle.check_defects.proofs.store_row.Given as goal
 

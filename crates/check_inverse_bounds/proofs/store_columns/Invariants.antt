@@ -4,7 +4,6 @@ use Prim.Native.Nat.{ℕ, ◌+◌, ◌*◌, ◌≤◌}
 use lib.ListN.{length}
 use Rattle.linear.specs.Slice.{at}
 use Rattle.linear.specs.Place.{Carried}
-use Rattle.linear.proofs.Places.{place}
 use Rattle.check_arrays.specs.Arrays.{columns_written}
 use Rattle.check_bounds.specs.Limits.{limits_of}
 use Rattle.check_inverse_bounds.specs.SymmetricRows.{KnownHalf}

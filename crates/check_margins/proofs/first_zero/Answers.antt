@@ -1,10 +1,9 @@
-use mathlib.Core.Path.{sym, ◌∙◌}
+use mathlib.Core.Path.{◌∙◌}
 use native.Mathlib.Omega.{arith}
-use Rattle.integer.proofs.Search.{first_none, first_next}
+use Rattle.std.proofs.Common.{rules}
+use Rattle.std.proofs.iter.runs.Made.{chains}
+use Rattle.check_margins.proofs.ZeroSearch.{first_zero_is}
 use Rattle.check_margins.proofs.first_zero.Goals as goal
 
-pub loop-m-init : goal.loop-m-init
-loop-m-init c = (omega arith, sym (first_none _))
-
-pub loop-m-preserved : goal.loop-m-preserved
-loop-m-preserved c = (omega arith, (rw c.loop-m.invariant.1 at c.first_or-found.ensures) ∙ sym (first_next _ _))
+pub returns : goal.returns
+returns c = c.unwrap_or.ensures ∙ first_zero_is c.position.result c.args.margins.now c.args.n (omega arith) (search (rules, chains))

@@ -20,6 +20,6 @@ returns c =
       h.1.0,
       record {
         weights_pos = s.requires.by_index;
-        under = λ i m li lm. cap_under s.args.n _ i _ _ li ((prefix_end 0 h.0 c.loop-m-test.false h.1.1).each m lm);
+        under = λ i m li lm. cap_under s.args.n _ i _ _ li ((prefix_end 0 h.0 (omega arith) h.1.1).each m lm);
       },
     )

@@ -1,14 +1,14 @@
-use mathlib.Core.Path.{sym, ◌∙◌}
-use native.Mathlib.Omega.{arith}
-use Rattle.integer.proofs.Machine.{read}
-use Rattle.integer.proofs.Search.{largest_none, largest_next}
-use Rattle.linear.specs.Slice.{at}
+use mathlib.Core.Path.{◌≡◌, ◌∙◌}
+use Prim.Native.Nat.{ℕ, max}
+use lib.IntN.{ℤ, pos, nat_abs}
+use lib.ListN.{take}
+use Rattle.std.specs.List.{fold}
+use Rattle.std.proofs.Common.{rules}
+use Rattle.std.proofs.iter.runs.Made.{chains}
+use Rattle.check_ratios.proofs.Fronts.{largest_front}
 use Rattle.check_ratios.proofs.largest_weight.Goals as goal
 
-pub loop-i-init : goal.loop-i-init
-loop-i-init c = (omega arith, sym (largest_none _))
-
-pub loop-i-preserved : goal.loop-i-preserved
-loop-i-preserved c =
-    let l = c.loop-i in
-    (omega arith, (rw (l.invariant.1, c.magnitude.ensures, read _ c.magnitude-arg-1.given) at c.larger-most.ensures) ∙ sym (largest_next _ _))
+pub returns : goal.returns
+returns c =
+    let folded : c.fold.result ≡ fold (λ (m : ℕ) (x : ℤ). max m (nat_abs x)) 0 (take c.args.n c.args.weights.now) = search (rules, chains) in
+    folded ∙ largest_front nat_abs (pos 0) c.args.weights.now c.args.n c.requires.column_list.long

@@ -1,31 +1,20 @@
-use mathlib.Core.Bool.{false}
-use mathlib.Core.Path.{◌≡◌, sym, ◌∙◌}
+use mathlib.Core.Path.{◌≡◌, ap, ◌∙◌}
 use Prim.Native.Nat.{◌+◌}
 use native.Mathlib.Omega.{arith}
-use Rattle.integer.proofs.Machine.{read}
-use Rattle.integer.proofs.Search.{first_is, first_never}
+use lib.IntN.{pos}
+use lib.ListN.{length}
+use Rattle.std.specs.List.{between}
+use Rattle.std.proofs.lemmas.List.Edits.{length-between, get_or-between}
 use Rattle.linear.specs.Slice.{at}
 use Rattle.check_arrays.specs.Parts.{above_allowed}
+use Rattle.check_residuals.proofs.FirstFound.{first_place}
 use Rattle.check_residuals.proofs.first_above.Goals as goal
-use Rattle.check_residuals.proofs.first_above.Goals.{After-is_above, In-loop-k, Start}
-
--- stages on the way: the start, and in the turn
-abbrev start : In-loop-k → Start
-start t = t.before.before
-
-abbrev turn : After-is_above → In-loop-k
-turn c = c.before.before.before
-
--- the test of this turn
-here : (c : After-is_above) →
-    c.is_above.result ≡ above_allowed (at c.args.allowed.now c.loop-k.k) (at c.args.residuals.now (c.args.start + c.loop-k.k))
-here c =
-    rw (read _ c.is_above-arg-1.given, read _ c.is_above-arg-in-loop-k-1.given, c.loop-k.invariant.1.0) at c.is_above.ensures
-
-pub returns-then-is_above : goal.returns-then-is_above
-returns-then-is_above c =
-    let t = (goal.at.returns-then-is_above c).In-loop-k in
-    sym (first_is _ _ t.loop-k.k t.loop-k-test.true (sym (here (goal.at.returns-then-is_above c).After-is_above) ∙ c.if-is_above.true) t.loop-k.invariant.1.1)
 
 pub returns : goal.returns
-returns c = sym (first_never _ _ (λ i m. c.loop-k.invariant.1.1 i (omega (arith, m, c.loop-k-test.false))))
+returns c =
+    let s = c.args.start in
+    let n = c.args.n in
+    let long : length (between s (s + n) c.args.residuals.now) ≡ n = omega (arith, length-between c.args.residuals.now s (s + n), c.requires.n_bound.1.0) in
+    c.unwrap_or.ensures
+    ∙ first_place c.position_above.result n _ _ (λ k l. ap (above_allowed (at c.args.allowed.now k)) (get_or-between c.args.residuals.now s (s + n) k (pos 0) (omega arith)))
+    (rw long at c.position_above.ensures)

@@ -1,7 +1,6 @@
-use mathlib.Core.Path.{◌≡◌}
-use Prim.Native.Nat.{ℕ, ◌+◌, ◌*◌, ◌≤◌, ◌<◌}
+use Rattle.std.proofs.Common.{◌≡◌, ℕ, ◌+◌, ◌*◌, ◌<◌}
 use Rattle.linear.specs.Slice.{at}
 use Rattle.check_symmetry.proofs.is_row_symmetric.Given as goal
 
-abbrev pub invariant-loop-j : goal.invariant-loop-j
-invariant-loop-j l = (l.j ≤ l.i) × ((l.along ≡ l.i * l.n + l.j) × ((l.down ≡ l.j * l.n + l.i) × ((k : ℕ) → k < l.j → at l.xs (l.i * l.n + k) ≡ at l.xs (k * l.n + l.i))))
+abbrev pub invariant-loop-x : goal.invariant-loop-x
+invariant-loop-x l = (l.down ≡ l.x-index * l.n + l.i) × ((k : ℕ) → k < l.x-index → at l.xs (l.i * l.n + k) ≡ at l.xs (k * l.n + l.i))

@@ -8,4 +8,4 @@ use Rattle.check_arrays.specs.Parts.{residual_from}
 use Rattle.dependent_coupling.proofs.base_of.Given as goal
 
 abbrev pub invariant-loop-k : goal.invariant-loop-k
-invariant-loop-k l = (l.k ≤ l.n) × (Carried 0 l.marks l.k l.row × ((length l.out ≡ 32) × PrefixIs (pos 0) l.out l.k (residual_from l.marks l.base l.coupling l.guess)))
+invariant-loop-k l = (l.k ≤ l.n) × (Carried 0 l.marks l.k l.row × ((length l.out ≡ 32) × PrefixIs (pos 0) l.out l.k (residual_from l.marks l.fn.base l.coupling l.guess)))

@@ -1,11 +1,5 @@
-use mathlib.Core.Path.{refl, sym}
-use native.Mathlib.Omega.{arith}
-use Rattle.linear.proofs.Written.{written_none, written_more}
+use Rattle.dependent_coupling.proofs.Parts.{copied}
 use Rattle.dependent_coupling.proofs.copy_limits.Goals as goal
 
-pub loop-i-init : goal.loop-i-init
-loop-i-init c = (omega arith, sym (written_none _ _ _ _))
-
-pub loop-i-preserved : goal.loop-i-preserved
-loop-i-preserved c =
-    let l = c.loop-i in (omega arith, written_more _ _ _ _ l.i l.invariant.1 (omega arith) refl)
+pub returns : goal.returns
+returns c = rw c.copy_from_slice.ensures.after (copied c.args.dst.now c.args.src.now c.args.n c.requires.1 c.requires.0)

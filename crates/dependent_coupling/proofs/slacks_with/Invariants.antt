@@ -7,4 +7,4 @@ use Rattle.dependent_coupling.specs.Carried.{capped_sum}
 use Rattle.dependent_coupling.proofs.slacks_with.Given as goal
 
 abbrev pub invariant-loop-k : goal.invariant-loop-k
-invariant-loop-k l = (l.k ≤ l.n) × (Carried 0 l.marks l.k l.row × ((length l.out ≡ 32) × PrefixIs 0 l.out l.k (λ (i : ℕ). capped_sum l.marks l.coupling l.limits i + get_or l.slacks i 0)))
+invariant-loop-k l = (l.k ≤ l.n) × (Carried 0 l.marks l.k l.row × ((length l.out ≡ 32) × PrefixIs 0 l.out l.k (λ (i : ℕ). capped_sum l.marks l.coupling l.limits i + get_or l.fn.slacks i 0)))

@@ -11,7 +11,6 @@ use Rattle.linear.specs.Slice.{vector_of}
 use Rattle.rules.proofs.Ranges.{both, both_left, not_both, not_first, neither, size_range}
 use Rattle.check_spec.specs.Input.{Input, input, short, sizes_in_range, in_ranges}
 use Rattle.check_spec.proofs.Fit.{Fit}
-use Rattle.check_spec.proofs.Lengths.{long_of}
 use Rattle.dependent_spec.specs.Nets.{DependentNet, dependent_by}
 use Rattle.dependent_spec.specs.Order.{dependent_short}
 use Rattle.dependent_spec.specs.Stated.{UsableDependent}
@@ -20,7 +19,7 @@ use Rattle.dependent_net.proofs.Handed.{HandedDependent, coupling_list, scaled_l
 use Rattle.dependent_net.proofs.Refused.{dependent_short_lem, dependent_range}
 use Rattle.std.proofs.Common.{rules}
 use Rattle.dependent_net.proofs.check_dependent_net.Goals as goal
-use Rattle.dependent_net.proofs.check_dependent_net.Goals.{After-allowed_of-then-all_in_range, After-base_of-base, After-compute_bounds, After-row_sums_of, After-slacks_with-slacks, Else-is_short, Start, Then-all_in_range, Then-are_lists_in_range, Then-are_sizes_in_range, Then-s-main_scale}
+use Rattle.dependent_net.proofs.check_dependent_net.Goals.{then-coupling-lt-MATRIX_LENGTH-via-then-coupling-lt-MATRIX_LENGTH, then-coupling-lt-MATRIX_LENGTH-via-else-coupling-lt-MATRIX_LENGTH+then-is_short, then-not-are_sizes_in_range-via-then-not-are_sizes_in_range, then-not-are_sizes_in_range-via-else-not-are_sizes_in_range+then-not-are_lists_in_range, then-not-are_sizes_in_range-via-else-not-are_sizes_in_range+else-not-are_lists_in_range+then-s-main_scale, then-not-are_sizes_in_range-via-else-not-are_sizes_in_range+else-not-are_lists_in_range+else-s-main_scale+then-not-all_in_range, After-allowed_of-2, After-base_of-base, After-row_sums_of, After-slacks_with-slacks, Else-is_short, Start, Else-not-all_in_range, Else-not-are_lists_in_range, Else-not-are_sizes_in_range, Else-s-main_scale}
 
 abbrev I : Start → Input
 I s =
@@ -36,45 +35,45 @@ not_short c = sym c.is_short.ensures ∙ c.if-is_short.false
 long : (c : Else-is_short) → dependent_short (D (goal.at.Else-is_short c).Start) ≡ false
 long c = neither (le-ltb _ _ c.if-coupling-lt-MATRIX_LENGTH.false) (not_short c)
 
-sizes : (c : Then-are_sizes_in_range) → sizes_in_range (I (goal.at.Then-are_sizes_in_range c).Start).n (I (goal.at.Then-are_sizes_in_range c).Start).s (I (goal.at.Then-are_sizes_in_range c).Start).t ≡ true
-sizes c = sym c.are_sizes_in_range.ensures ∙ c.if-are_sizes_in_range.true
+sizes : (c : Else-not-are_sizes_in_range) → sizes_in_range (I (goal.at.Else-not-are_sizes_in_range c).Start).n (I (goal.at.Else-not-are_sizes_in_range c).Start).s (I (goal.at.Else-not-are_sizes_in_range c).Start).t ≡ true
+sizes c = sym c.are_sizes_in_range.ensures ∙ c.if-not-are_sizes_in_range.false
 
-within : (c : Then-are_lists_in_range) → in_ranges (I (goal.at.Then-are_lists_in_range c).Start) ≡ true
-within c = both (sizes (goal.at.Then-are_lists_in_range c).Then-are_sizes_in_range) (sym c.are_lists_in_range.ensures ∙ c.if-are_lists_in_range.true)
+within : (c : Else-not-are_lists_in_range) → in_ranges (I (goal.at.Else-not-are_lists_in_range c).Start) ≡ true
+within c = both (sizes (goal.at.Else-not-are_lists_in_range c).Else-not-are_sizes_in_range) (sym c.are_lists_in_range.ensures ∙ c.if-not-are_lists_in_range.false)
 
-one_scale : (c : Then-s-main_scale) → eqb c.args.s c.args.main_scale ≡ true
-one_scale c = eq-eqb _ _ c.if-s-main_scale.true
+one_scale : (c : Else-s-main_scale) → eqb c.args.s c.args.main_scale ≡ true
+one_scale c = eq-eqb _ _ c.if-s-main_scale.false
 
-n_max : (c : Then-are_sizes_in_range) → c.args.n ≤ 32
+n_max : (c : Else-not-are_sizes_in_range) → c.args.n ≤ 32
 n_max c = (size_range _ (both_left _ _ (sizes c))).1
 
-usable : (c : Then-all_in_range) → UsableDependent (D (goal.at.Then-all_in_range c).Start)
+usable : (c : Else-not-all_in_range) → UsableDependent (D (goal.at.Else-not-all_in_range c).Start)
 usable c =
-    let t = (goal.at.Then-all_in_range c).Then-s-main_scale in
+    let t = (goal.at.Else-not-all_in_range c).Else-s-main_scale in
     record {
-      long = long (goal.at.Then-s-main_scale t).Else-is_short;
-      inside = both (within (goal.at.Then-s-main_scale t).Then-are_lists_in_range) (both (one_scale t) (sym c.all_in_range.ensures ∙ c.if-all_in_range.true));
+      long = long (goal.at.Else-s-main_scale t).Else-is_short;
+      inside = both (within (goal.at.Else-s-main_scale t).Else-not-are_lists_in_range) (both (one_scale t) (sym c.all_in_range.ensures ∙ c.if-not-all_in_range.false));
     }
 
-fit : (c : Then-all_in_range) → Fit (I (goal.at.Then-all_in_range c).Start)
-fit c = own_fit (D (goal.at.Then-all_in_range c).Start) (usable c)
+fit : (c : Else-not-all_in_range) → Fit (I (goal.at.Else-not-all_in_range c).Start)
+fit c = own_fit (D (goal.at.Else-not-all_in_range c).Start) (usable c)
 
-coupled : (c : Then-all_in_range) → ColumnList c.args.coupling.now (c.args.n * c.args.marks) (2 ^ 20)
+coupled : (c : Else-not-all_in_range) → ColumnList c.args.coupling.now (c.args.n * c.args.marks) (2 ^ 20)
 coupled c =
     coupling_list _ _ _ (fit c).n_max c.requires.marks_bound c.if-coupling-lt-MATRIX_LENGTH.false
-    (sym c.all_in_range.ensures ∙ c.if-all_in_range.true)
+    (sym c.all_in_range.ensures ∙ c.if-not-all_in_range.false)
 
 base-length : (b : After-base_of-base) → length b.base_of-base.result ≡ 32
 base-length b = search rules
 
-handed : (z : After-allowed_of-then-all_in_range) →
-    let r = (goal.at.After-allowed_of-then-all_in_range z).After-row_sums_of in
+handed : (z : After-allowed_of-2) →
+    let r = (goal.at.After-allowed_of-2 z).After-row_sums_of in
     let w = (goal.at.After-row_sums_of r).After-slacks_with-slacks in
-    HandedDependent z.args.marks z.args.main_guess.now z.args.main_limits z.args.coupling.now (I (goal.at.After-allowed_of-then-all_in_range z).Start)
+    HandedDependent z.args.marks z.args.main_guess.now z.args.main_limits z.args.coupling.now (I (goal.at.After-allowed_of-2 z).Start)
     w.scaled_right.new.out w.base_of-base.result w.slacks_of.new.out w.slacks_with-slacks.result z.allowed_of.new.out r.row_sums_of.new.out
-    z.allowed_of-then-all_in_range.new.out
+    z.allowed_of-2.new.out
 handed z =
-    let r = (goal.at.After-allowed_of-then-all_in_range z).After-row_sums_of in
+    let r = (goal.at.After-allowed_of-2 z).After-row_sums_of in
     let w = (goal.at.After-row_sums_of r).After-slacks_with-slacks in
     record {
       scaled_long = w.scaled_right.ensures.0;
@@ -86,100 +85,98 @@ handed z =
       allowed_long = z.allowed_of.ensures.0;
       allowed = z.allowed_of.ensures.1;
       sums = r.row_sums_of.ensures.1;
-      in_columns_long = z.allowed_of-then-all_in_range.ensures.0;
-      in_columns = z.allowed_of-then-all_in_range.ensures.1;
+      in_columns_long = z.allowed_of-2.ensures.0;
+      in_columns = z.allowed_of-2.ensures.1;
     }
-
-pub returns-then-coupling-lt-MATRIX_LENGTH : goal.returns-then-coupling-lt-MATRIX_LENGTH
-returns-then-coupling-lt-MATRIX_LENGTH c = dependent_short_lem (D (goal.at.returns-then-coupling-lt-MATRIX_LENGTH c).Start) (rw (lt-ltb _ _ c.if-coupling-lt-MATRIX_LENGTH.true))
-
-pub returns-then-is_short : goal.returns-then-is_short
-returns-then-is_short c =
-    dependent_short_lem (D (goal.at.returns-then-is_short c).Start)
-    (rw (le-ltb _ _ c.if-coupling-lt-MATRIX_LENGTH.false) (sym c.is_short.ensures ∙ c.if-is_short.true))
 
 pub all_in_range-requires : goal.all_in_range-requires
 all_in_range-requires c =
-    let t = (goal.at.all_in_range-requires c).Then-are_lists_in_range in
-    omega (arith, mul-le-mul (n_max (goal.at.all_in_range-requires c).Then-are_sizes_in_range) c.requires.marks_bound, t.if-coupling-lt-MATRIX_LENGTH.false)
+    omega (arith, mul-le-mul (n_max (goal.at.all_in_range-requires c).Else-not-are_sizes_in_range) c.requires.marks_bound, c.if-coupling-lt-MATRIX_LENGTH.false)
 
 pub allowed_of-requires : goal.allowed_of-requires
-allowed_of-requires c = ((fit (goal.at.allowed_of-requires c).Then-all_in_range).n_max, refl)
-
-pub allowed_of-requires-then-all_in_range : goal.allowed_of-requires-then-all_in_range
-allowed_of-requires-then-all_in_range c = ((fit (goal.at.allowed_of-requires-then-all_in_range c).Then-all_in_range).n_max, refl)
+allowed_of-requires c = ((fit (goal.at.allowed_of-requires c).Else-not-all_in_range).n_max, refl)
 
 pub compute_bounds-requires : goal.compute_bounds-requires
 compute_bounds-requires c =
-    let z = (goal.at.compute_bounds-requires c).After-allowed_of-then-all_in_range in
-    let t = (goal.at.compute_bounds-requires c).Then-all_in_range in
-    let s = (goal.at.compute_bounds-requires c).Start in workable s.args.marks s.args.main_scale s.args.main_guess.now s.args.main_limits s.args.coupling.now (I (goal.at.compute_bounds-requires c).Start) s.requires.marks_bound s.requires.column_list (usable (goal.at.compute_bounds-requires c).Then-all_in_range) (handed (goal.at.compute_bounds-requires c).After-allowed_of-then-all_in_range)
-
-pub returns-then-all_in_range : goal.returns-then-all_in_range
-returns-then-all_in_range c =
-    let r = (goal.at.returns-then-all_in_range c).After-compute_bounds in
-    let z = (goal.at.returns-then-all_in_range c).After-allowed_of-then-all_in_range in
-    let t = (goal.at.returns-then-all_in_range c).Then-all_in_range in
-    let s = (goal.at.returns-then-all_in_range c).Start in
-    computed_dependent s.args.marks s.args.main_scale s.args.main_guess.now s.args.main_limits s.args.coupling.now (I (goal.at.returns-then-all_in_range c).Start) s.requires.marks_bound s.requires.column_list (usable (goal.at.returns-then-all_in_range c).Then-all_in_range) (handed (goal.at.returns-then-all_in_range c).After-allowed_of-then-all_in_range) r.compute_bounds.ensures
-
-pub returns-else-all_in_range : goal.returns-else-all_in_range
-returns-else-all_in_range c =
-    let t = (goal.at.returns-else-all_in_range c).Then-s-main_scale in
-    dependent_range (D (goal.at.returns-else-all_in_range c).Start) (long (goal.at.returns-else-all_in_range c).Else-is_short)
-    (not_both (within (goal.at.returns-else-all_in_range c).Then-are_lists_in_range) (not_both (one_scale (goal.at.returns-else-all_in_range c).Then-s-main_scale) (sym c.all_in_range.ensures ∙ c.if-all_in_range.false)))
-
-pub returns-else-s-main_scale : goal.returns-else-s-main_scale
-returns-else-s-main_scale c =
-    dependent_range (D (goal.at.returns-else-s-main_scale c).Start) (long (goal.at.returns-else-s-main_scale c).Else-is_short)
-    (not_both (within (goal.at.returns-else-s-main_scale c).Then-are_lists_in_range) (not_first _ (ne_eqb _ _ c.if-s-main_scale.false)))
-
-pub returns-else-are_lists_in_range : goal.returns-else-are_lists_in_range
-returns-else-are_lists_in_range c =
-    let t = (goal.at.returns-else-are_lists_in_range c).Then-are_sizes_in_range in
-    dependent_range (D (goal.at.returns-else-are_lists_in_range c).Start) (long (goal.at.returns-else-are_lists_in_range c).Else-is_short)
-    (not_first _ (not_both (sizes (goal.at.returns-else-are_lists_in_range c).Then-are_sizes_in_range) (sym c.are_lists_in_range.ensures ∙ c.if-are_lists_in_range.false)))
-
-pub returns-else-are_sizes_in_range : goal.returns-else-are_sizes_in_range
-returns-else-are_sizes_in_range c =
-    dependent_range (D (goal.at.returns-else-are_sizes_in_range c).Start) (long (goal.at.returns-else-are_sizes_in_range c).Else-is_short)
-    (not_first _ (not_first _ (sym c.are_sizes_in_range.ensures ∙ c.if-are_sizes_in_range.false)))
+    let s = (goal.at.compute_bounds-requires c).Start in
+    workable s.args.marks s.args.main_scale s.args.main_guess.now s.args.main_limits s.args.coupling.now (I s) s.requires.marks_bound s.requires.column_list
+    (usable (goal.at.compute_bounds-requires c).Else-not-all_in_range) (handed (goal.at.compute_bounds-requires c).After-allowed_of-2)
 
 pub are_lists_in_range-requires-clause-n_bound : goal.are_lists_in_range-requires-clause-n_bound
-are_lists_in_range-requires-clause-n_bound c = let l = long_of (I (goal.at.are_lists_in_range-requires-clause-n_bound c).Start) (not_short (goal.at.are_lists_in_range-requires-clause-n_bound c).Else-is_short) in n_max c
+are_lists_in_range-requires-clause-n_bound c = n_max c
 
 pub scaled_right-requires-clause-column_list : goal.scaled_right-requires-clause-column_list
-scaled_right-requires-clause-column_list c = let x = fit (goal.at.scaled_right-requires-clause-column_list c).Then-all_in_range in x.right
+scaled_right-requires-clause-column_list c = (fit (goal.at.scaled_right-requires-clause-column_list c).Else-not-all_in_range).right
 
 pub scaled_right-requires-clause-s_bound : goal.scaled_right-requires-clause-s_bound
-scaled_right-requires-clause-s_bound c = let x = fit (goal.at.scaled_right-requires-clause-s_bound c).Then-all_in_range in (x.solution_scale, (x.n_max, refl))
+scaled_right-requires-clause-s_bound c =
+    let x = fit (goal.at.scaled_right-requires-clause-s_bound c).Else-not-all_in_range in (x.solution_scale, (x.n_max, refl))
 
 pub base_of-base-requires-clause-marks_bound : goal.base_of-base-requires-clause-marks_bound
-base_of-base-requires-clause-marks_bound c = let t = (goal.at.base_of-base-requires-clause-marks_bound c).Then-all_in_range in let x = fit (goal.at.base_of-base-requires-clause-marks_bound c).Then-all_in_range in (t.requires.marks_bound, x.n_max)
+base_of-base-requires-clause-marks_bound c = (c.requires.marks_bound, (fit (goal.at.base_of-base-requires-clause-marks_bound c).Else-not-all_in_range).n_max)
 
 pub base_of-base-requires-clause-column_list_2 : goal.base_of-base-requires-clause-column_list_2
-base_of-base-requires-clause-column_list_2 c = let t = (goal.at.base_of-base-requires-clause-column_list_2 c).Then-all_in_range in let x = fit (goal.at.base_of-base-requires-clause-column_list_2 c).Then-all_in_range in coupled (goal.at.base_of-base-requires-clause-column_list_2 c).Then-all_in_range
+base_of-base-requires-clause-column_list_2 c = coupled (goal.at.base_of-base-requires-clause-column_list_2 c).Else-not-all_in_range
 
 pub base_of-base-requires-clause-column_list : goal.base_of-base-requires-clause-column_list
-base_of-base-requires-clause-column_list c = let t = (goal.at.base_of-base-requires-clause-column_list c).Then-all_in_range in let x = fit (goal.at.base_of-base-requires-clause-column_list c).Then-all_in_range in scaled_list (I (goal.at.base_of-base-requires-clause-column_list c).Start) x c.scaled_right.ensures.0 c.scaled_right.ensures.1
+base_of-base-requires-clause-column_list c =
+    scaled_list (I (goal.at.base_of-base-requires-clause-column_list c).Start) (fit (goal.at.base_of-base-requires-clause-column_list c).Else-not-all_in_range) c.scaled_right.ensures.0 c.scaled_right.ensures.1
 
 pub slacks_of-requires-clause-s_bound : goal.slacks_of-requires-clause-s_bound
-slacks_of-requires-clause-s_bound c = let x = fit (goal.at.slacks_of-requires-clause-s_bound c).Then-all_in_range in (x.solution_scale, (x.n_max, refl))
+slacks_of-requires-clause-s_bound c =
+    let x = fit (goal.at.slacks_of-requires-clause-s_bound c).Else-not-all_in_range in (x.solution_scale, (x.n_max, refl))
 
 pub slacks_of-requires-clause-column_list : goal.slacks_of-requires-clause-column_list
-slacks_of-requires-clause-column_list c = let x = fit (goal.at.slacks_of-requires-clause-column_list c).Then-all_in_range in x.tolerance
+slacks_of-requires-clause-column_list c = (fit (goal.at.slacks_of-requires-clause-column_list c).Else-not-all_in_range).tolerance
 
 pub slacks_with-slacks-requires-clause-by_index : goal.slacks_with-slacks-requires-clause-by_index
-slacks_with-slacks-requires-clause-by_index c = let t = (goal.at.slacks_with-slacks-requires-clause-by_index c).Then-all_in_range in let x = fit (goal.at.slacks_with-slacks-requires-clause-by_index c).Then-all_in_range in own_slacks (I (goal.at.slacks_with-slacks-requires-clause-by_index c).Start) x c.slacks_of.ensures.1
+slacks_with-slacks-requires-clause-by_index c =
+    own_slacks (I (goal.at.slacks_with-slacks-requires-clause-by_index c).Start) (fit (goal.at.slacks_with-slacks-requires-clause-by_index c).Else-not-all_in_range) c.slacks_of.ensures.1
 
 pub slacks_with-slacks-requires-clause-column_list : goal.slacks_with-slacks-requires-clause-column_list
-slacks_with-slacks-requires-clause-column_list c = let t = (goal.at.slacks_with-slacks-requires-clause-column_list c).Then-all_in_range in let x = fit (goal.at.slacks_with-slacks-requires-clause-column_list c).Then-all_in_range in coupled (goal.at.slacks_with-slacks-requires-clause-column_list c).Then-all_in_range
+slacks_with-slacks-requires-clause-column_list c = coupled (goal.at.slacks_with-slacks-requires-clause-column_list c).Else-not-all_in_range
 
 pub slacks_with-slacks-requires-clause-marks_bound : goal.slacks_with-slacks-requires-clause-marks_bound
-slacks_with-slacks-requires-clause-marks_bound c = let t = (goal.at.slacks_with-slacks-requires-clause-marks_bound c).Then-all_in_range in let x = fit (goal.at.slacks_with-slacks-requires-clause-marks_bound c).Then-all_in_range in (t.requires.marks_bound, x.n_max)
+slacks_with-slacks-requires-clause-marks_bound c = (c.requires.marks_bound, (fit (goal.at.slacks_with-slacks-requires-clause-marks_bound c).Else-not-all_in_range).n_max)
 
 pub row_sums_of-requires-clause-matrix_list : goal.row_sums_of-requires-clause-matrix_list
-row_sums_of-requires-clause-matrix_list c = let x = fit (goal.at.row_sums_of-requires-clause-matrix_list c).Then-all_in_range in x.matrix
+row_sums_of-requires-clause-matrix_list c = (fit (goal.at.row_sums_of-requires-clause-matrix_list c).Else-not-all_in_range).matrix
 
 pub row_sums_of-requires-clause-n_bound : goal.row_sums_of-requires-clause-n_bound
-row_sums_of-requires-clause-n_bound c = let x = fit (goal.at.row_sums_of-requires-clause-n_bound c).Then-all_in_range in (x.n_max, refl)
+row_sums_of-requires-clause-n_bound c = ((fit (goal.at.row_sums_of-requires-clause-n_bound c).Else-not-all_in_range).n_max, refl)
+
+pub allowed_of-requires-2 : goal.allowed_of-requires-2
+allowed_of-requires-2 c = ((fit (goal.at.allowed_of-requires-2 c).Else-not-all_in_range).n_max, refl)
+
+pub returns-then-coupling-lt-MATRIX_LENGTH : goal.returns-then-coupling-lt-MATRIX_LENGTH
+returns-then-coupling-lt-MATRIX_LENGTH c =
+    dependent_short_lem (D (goal.at.returns-then-coupling-lt-MATRIX_LENGTH c).Start)
+    (elim c.then-coupling-lt-MATRIX_LENGTH.branch [
+      | then-coupling-lt-MATRIX_LENGTH-via-then-coupling-lt-MATRIX_LENGTH w ↦ rw (lt-ltb _ _ w.if-coupling-lt-MATRIX_LENGTH.true)
+      | then-coupling-lt-MATRIX_LENGTH-via-else-coupling-lt-MATRIX_LENGTH+then-is_short w ↦
+          rw (le-ltb _ _ w.if-coupling-lt-MATRIX_LENGTH.false) (sym w.is_short.ensures ∙ w.if-is_short.true)
+    ])
+
+pub returns-then-not-are_sizes_in_range : goal.returns-then-not-are_sizes_in_range
+returns-then-not-are_sizes_in_range c =
+    dependent_range (D (goal.at.returns-then-not-are_sizes_in_range c).Start) (long (goal.at.returns-then-not-are_sizes_in_range c).Else-is_short)
+    (elim c.then-not-are_sizes_in_range.branch [
+      | then-not-are_sizes_in_range-via-then-not-are_sizes_in_range w ↦
+          not_first _ (not_first _ (sym c.are_sizes_in_range.ensures ∙ w.if-not-are_sizes_in_range.true))
+      | then-not-are_sizes_in_range-via-else-not-are_sizes_in_range+then-not-are_lists_in_range w ↦
+          not_first _ (not_both (sym c.are_sizes_in_range.ensures ∙ w.if-not-are_sizes_in_range.false) (sym w.are_lists_in_range.ensures ∙ w.if-not-are_lists_in_range.true))
+      | then-not-are_sizes_in_range-via-else-not-are_sizes_in_range+else-not-are_lists_in_range+then-s-main_scale w ↦
+          not_both
+          (both (sym c.are_sizes_in_range.ensures ∙ w.if-not-are_sizes_in_range.false) (sym w.are_lists_in_range.ensures ∙ w.if-not-are_lists_in_range.false))
+          (not_first _ (ne_eqb _ _ w.if-s-main_scale.true))
+      | then-not-are_sizes_in_range-via-else-not-are_sizes_in_range+else-not-are_lists_in_range+else-s-main_scale+then-not-all_in_range w ↦
+          not_both
+          (both (sym c.are_sizes_in_range.ensures ∙ w.if-not-are_sizes_in_range.false) (sym w.are_lists_in_range.ensures ∙ w.if-not-are_lists_in_range.false))
+          (not_both (eq-eqb _ _ w.if-s-main_scale.false) (sym w.all_in_range.ensures ∙ w.if-not-all_in_range.true))
+    ])
+
+pub returns : goal.returns
+returns c =
+    let s = (goal.at.returns c).Start in
+    computed_dependent s.args.marks s.args.main_scale s.args.main_guess.now s.args.main_limits s.args.coupling.now (I s) s.requires.marks_bound s.requires.column_list
+    (usable (goal.at.returns c).Else-not-all_in_range) (handed (goal.at.returns c).After-allowed_of-2) c.compute_bounds.ensures

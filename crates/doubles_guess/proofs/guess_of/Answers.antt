@@ -2,22 +2,12 @@ use mathlib.Core.Path.{◌∙◌}
 use Rattle.integer.proofs.Machine.{read}
 use Rattle.doubles_guess.proofs.Guesses.{none_outside, none_large, given}
 use Rattle.doubles_guess.proofs.guess_of.Goals as goal
-use Rattle.doubles_guess.proofs.guess_of.Goals.{After-decode-p, After-nearest-magnitude}
 
-pub returns-then-magnitude : goal.returns-then-magnitude
-returns-then-magnitude c =
-    let n = (goal.at.returns-then-magnitude c).After-nearest-magnitude in
-    let d = n.before.before in
-    given d.args.s d.args.x d.decode-p.result d.decode-p.ensures n.if-p.true n.nearest-magnitude.result n.nearest-magnitude.ensures c.if-magnitude.true
-    (read c.signed-steps.result c.signed-steps.type_inv ∙ c.signed-steps.ensures)
+pub returns-in_err-p : goal.returns-in_err-p
+returns-in_err-p c = rw c.from_residual.ensures (none_outside c.args.s c.args.x c.in_err-p.ensures)
 
-pub returns-else-magnitude : goal.returns-else-magnitude
-returns-else-magnitude c =
-    let n = (goal.at.returns-else-magnitude c).After-nearest-magnitude in
-    let d = n.before.before in
-    none_large d.args.s d.args.x d.decode-p.result d.decode-p.ensures n.if-p.true n.nearest-magnitude.result n.nearest-magnitude.ensures c.if-magnitude.false
+pub returns-in_err-magnitude : goal.returns-in_err-magnitude
+returns-in_err-magnitude c = rw c.from_residual-in_err-magnitude.ensures (none_large c.args.s c.args.x c.in_ok-p.p c.in_ok-p.ensures c.in_err-magnitude.ensures)
 
-pub returns-else-p : goal.returns-else-p
-returns-else-p c =
-    let d = (goal.at.returns-else-p c).After-decode-p in
-    none_outside d.args.s d.args.x d.decode-p.result d.decode-p.ensures c.if-p.false
+pub returns : goal.returns
+returns c = given c.args.s c.args.x c.in_ok-p.p c.in_ok-p.ensures c.in_ok-magnitude.ensures (read c.signed.result c.signed.type_inv ∙ c.signed.ensures)

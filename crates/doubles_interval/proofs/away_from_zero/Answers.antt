@@ -17,15 +17,15 @@ returns-then-f-eq0 c =
     ∙ ap (λ (q : ℕ). units binary64 s.args.negative q (1085 - s.args.s - r.zeros)) g.leading-digits.ensures
     ∙ sym (away_exact s.args.negative s.args.a s.args.s r.number r.zeros s.requires.1 u.shifted_up-f.ensures (omega (arith, i.if-f-eq0.true)))
 
-pub returns-then-digits-eq9007199254740991 : goal.returns-then-digits-eq9007199254740991
-returns-then-digits-eq9007199254740991 c =
-    let i = (goal.at.returns-then-digits-eq9007199254740991 c).Else-f-eq0 in
-    let g = (goal.at.returns-then-digits-eq9007199254740991 c).After-leading-digits in
-    let u = (goal.at.returns-then-digits-eq9007199254740991 c).After-shifted_up-f in
-    let s = (goal.at.returns-then-digits-eq9007199254740991 c).Start in
+pub returns-then-digits : goal.returns-then-digits
+returns-then-digits c =
+    let i = (goal.at.returns-then-digits c).Else-f-eq0 in
+    let g = (goal.at.returns-then-digits c).After-leading-digits in
+    let u = (goal.at.returns-then-digits c).After-shifted_up-f in
+    let s = (goal.at.returns-then-digits c).Start in
     let r = u.shifted_up-f.result in
-    c.from_parts-then-digits-eq9007199254740991.ensures
-    ∙ sym (away_carry s.args.negative s.args.a s.args.s r.number r.zeros s.requires.1 u.shifted_up-f.ensures i.if-f-eq0.false (sym g.leading-digits.ensures ∙ c.if-digits-eq9007199254740991.true))
+    c.from_parts-then-digits.ensures
+    ∙ sym (away_carry s.args.negative s.args.a s.args.s r.number r.zeros s.requires.1 u.shifted_up-f.ensures i.if-f-eq0.false (sym g.leading-digits.ensures ∙ c.if-digits.true))
 
 pub returns : goal.returns
 returns c =

@@ -30,5 +30,5 @@ module _ (c : Start) where
 pub returns : goal.returns
 returns c =
     let s = (goal.at.returns c).Start in
-    ap₂ (λ (l h : Float). record { low = l; high = h }) (simp (to_z-of_z w64, to_z_pos w64, s.ranges.x, reaches (goal.at.returns c).Start, low_fits (goal.at.returns c).Start) at c.low_end.ensures)
-    (simp (to_z-of_z w64, to_z_pos w64, s.ranges.x, reaches (goal.at.returns c).Start, high_fits (goal.at.returns c).Start) at c.high_end.ensures)
+    ap₂ (λ (l h : Float). record { low = l; high = h }) (simp (to_z-of_z w64, to_z_pos w64, s.ranges.x, reaches (goal.at.returns c).Start, low_fits (goal.at.returns c).Start) at c.end_at.ensures)
+    (simp (to_z-of_z w64, to_z_pos w64, s.ranges.x, reaches (goal.at.returns c).Start, high_fits (goal.at.returns c).Start) at c.end_at-2.ensures)

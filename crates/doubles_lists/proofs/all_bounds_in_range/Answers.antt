@@ -1,10 +1,9 @@
-use mathlib.Core.Path.{sym}
-use Rattle.rules.proofs.Every.{every_none, every_next}
+use lib.Dec.{leb}
+use Prim.Native.Nat.{ℕ, ◌^◌}
 use Rattle.std.proofs.Common.{rules}
+use Rattle.std.proofs.iter.runs.Made.{chains}
+use Rattle.rules.proofs.Front.{every_front}
 use Rattle.doubles_lists.proofs.all_bounds_in_range.Goals as goal
 
-pub loop-i-init : goal.loop-i-init
-loop-i-init c = (search rules, sym (every_none _))
-
-pub loop-i-preserved : goal.loop-i-preserved
-loop-i-preserved c = (search rules, rw c.loop-i.invariant.1 (sym (every_next _ _)))
+pub returns : goal.returns
+returns c = every_front (λ (e : ℕ). leb e (2 ^ 60)) 0 c.args.bounds.now c.args.n c.requires (search (rules, chains))

@@ -1,10 +1,9 @@
-use mathlib.Core.Path.{sym}
-use Rattle.rules.proofs.Every.{every_none, every_next}
+use lib.Ieee.{Float, nan}
 use Rattle.std.proofs.Common.{rules}
+use Rattle.std.proofs.iter.runs.Made.{chains}
+use Rattle.doubles_guess.specs.Guess.{has_guess}
+use Rattle.rules.proofs.Front.{every_front}
 use Rattle.doubles_lists.proofs.all_have_guess.Goals as goal
 
-pub loop-i-init : goal.loop-i-init
-loop-i-init c = (search rules, sym (every_none _))
-
-pub loop-i-preserved : goal.loop-i-preserved
-loop-i-preserved c = (search rules, rw (c.guess_of-g.ensures.found, c.loop-i.invariant.1) (sym (every_next _ _)))
+pub returns : goal.returns
+returns c = every_front (λ (x : Float). has_guess c.args.s x) nan c.args.values.now c.args.n c.requires.0 (search (rules, chains))

@@ -12,10 +12,10 @@ tested c = rw (read c.args.x c.ranges.x.sfits) at c.can_enter.ensures
 pub round_scaled-requires : goal.round_scaled-requires
 round_scaled-requires c =
     let a = (goal.at.round_scaled-requires c).Start in
-    let f = entry_fits a.args.x a.args.s (sym (tested (goal.at.round_scaled-requires c).After-can_enter) ∙ c.if-can_enter.true) in
+    let f = entry_fits a.args.x a.args.s (sym (tested (goal.at.round_scaled-requires c).After-can_enter) ∙ c.if-not-can_enter.false) in
     (rw (read a.args.x a.ranges.x.sfits) f.0, omega (arith, f.1))
 
 pub entry_bound-requires : goal.entry_bound-requires
 entry_bound-requires c =
     let a = (goal.at.entry_bound-requires c).Start in
-    rw (read a.args.x a.ranges.x.sfits) (entry_fits a.args.x a.args.s (sym (tested (goal.at.entry_bound-requires c).After-can_enter) ∙ c.if-can_enter.true))
+    rw (read a.args.x a.ranges.x.sfits) (entry_fits a.args.x a.args.s (sym (tested (goal.at.entry_bound-requires c).After-can_enter) ∙ c.if-not-can_enter.false))

@@ -1,13 +1,9 @@
 use Rattle.file_check.proofs.Shown.{shown_accepted, report_ready}
 use Rattle.file_check.proofs.put_checked.Goals as goal
-use Rattle.file_check.proofs.put_checked.Goals.{After-put_report-length, After-solution_scale-s, In-Accepted}
 
-pub returns-in-Accepted : goal.returns-in-Accepted
-returns-in-Accepted c =
-    let p = (goal.at.returns-in-Accepted c).After-put_report-length in
-    let k = (goal.at.returns-in-Accepted c).After-solution_scale-s in
-    let m = (goal.at.returns-in-Accepted c).In-Accepted in
-    shown_accepted _ _ m.check-outcome.ensures m.in-Accepted.is k.size-n.ensures k.solution_scale-s.ensures c.no_refusal.ensures p.put_report-length.ensures
+pub returns-in-Ok : goal.returns-in-Ok
+returns-in-Ok c =
+    shown_accepted _ _ c.check.ensures c.in-Ok.is c.size-n.ensures c.solution_scale-s.ensures c.no_refusal.ensures c.put_report-length.ensures
 
 pub put_report-length-requires-clause-reportable : goal.put_report-length-requires-clause-reportable
-put_report-length-requires-clause-reportable c = let k = (goal.at.put_report-length-requires-clause-reportable c).After-solution_scale-s in let m = (goal.at.put_report-length-requires-clause-reportable c).In-Accepted in report_ready _ _ m.check-outcome.ensures m.in-Accepted.is k.size-n.ensures k.solution_scale-s.ensures
+put_report-length-requires-clause-reportable c = report_ready _ _ c.check.ensures c.in-Ok.is c.size-n.ensures c.solution_scale-s.ensures

@@ -1,23 +1,20 @@
-use Rattle.std.proofs.Common.{◌∙◌, rules}
+use Rattle.std.proofs.Common.{◌∙◌, arith, rules}
 use Rattle.line_numeral.proofs.Steps.{run_digit, run_stop, run_end}
-use Rattle.std.proofs.Common.{rules}
 use Rattle.line_numeral.proofs.run_at.Goals as goal
-use Rattle.line_numeral.proofs.run_at.Goals.{After-digit-d}
 
-pub loop-i-preserved : goal.loop-i-preserved
-loop-i-preserved c =
-    let d = (goal.at.loop-i-preserved c).After-digit-d in
-    let l = d.loop-i in (
-      search rules,
-      search rules,
-      run_digit _ l.v _ d.loop-i-test.true d.digit-d.ensures.0 c.if-d-ge10.false c.cap_magnitude-v.ensures.0 ∙ l.invariant.2,
-    )
+pub loop-b-preserved : goal.loop-b-preserved
+loop-b-preserved c =
+    let l = c.loop-b in
+    let d = c.in-Some.ensures in
+    record {
+      at_place = omega arith;
+      small = search rules;
+      digits = run_digit _ l.value _ _ c.loop-b-test.true d.1 (omega arith) c.cap_magnitude-value.ensures.0 ∙ l.invariant.digits;
+    }
 
-pub returns-after-loop-i : goal.returns-after-loop-i
-returns-after-loop-i c = run_end _ _ _ c.loop-i-test.false c.loop-i.invariant.1 ∙ c.loop-i.invariant.2
+pub returns-after-loop-b : goal.returns-after-loop-b
+returns-after-loop-b c = run_end _ _ _ _ c.loop-b-test.false c.loop-b.invariant.small ∙ c.loop-b.invariant.digits
 
-pub returns-then-d-ge10 : goal.returns-then-d-ge10
-returns-then-d-ge10 c =
-    let d = (goal.at.returns-then-d-ge10 c).After-digit-d in
-    let l = d.loop-i in
-    run_stop _ _ _ d.loop-i-test.true d.digit-d.ensures.0 c.if-d-ge10.true l.invariant.1 ∙ l.invariant.2
+pub returns-in_default : goal.returns-in_default
+returns-in_default c =
+    run_stop _ _ _ _ c.loop-b-test.true (omega (arith, c.in_default.ensures)) c.loop-b.invariant.small ∙ c.loop-b.invariant.digits

@@ -1,9 +1,10 @@
-use mathlib.Core.Path.{◌≡◌}
-use Prim.Native.Nat.{ℕ, ◌+◌, ◌*◌, ◌≤◌}
-use lib.ListN.{length, get_or}
+use Rattle.std.proofs.Common.{◌≡◌, ℕ, ◌+◌, ◌*◌, length, ◌++◌, slice_index_or}
 use Rattle.listing_text.specs.Wrote.{Wrote}
-use Rattle.listing_text.specs.Line.{numbers}
+use Rattle.listing_text.specs.Line.{each, gap}
 use Rattle.listing_text.proofs.put_numbers.Given as goal
 
 abbrev pub invariant-loop-j : goal.invariant-loop-j
-invariant-loop-j l = (l.j ≤ l.n) × (length l.out ≡ length l.initial.out) × Wrote (l.j * 21) l.initial.out l.at (numbers l.j (λ (k : ℕ). get_or l.values (l.start + k) 0)) l.out l.index
+invariant-loop-j g l = record {
+  same_length : length l.out ≡ length l.fn.out;
+  wrote : Wrote (l.j * 21) l.fn.out l.at (each l.j (λ (k : ℕ). gap k ++ g.T.Numeral.text (slice_index_or l.values (l.start + k) g.T.Numeral.zero))) l.out l.index;
+}

@@ -1,10 +1,9 @@
-use lib.ListN.{length}
-use Rattle.loader_lists.proofs.Put.{span_fits}
+use Rattle.std.proofs.Common.{length, rules}
+use Rattle.loader_lists.proofs.Put.{InSpan, span_fits}
 use Rattle.loader_lists.proofs.write_part.Goals as goal
-use Rattle.loader_lists.proofs.write_part.Goals.{Start}
 
-pub write_values-requires : goal.write_values-requires
-write_values-requires c =
-    let s = (goal.at.write_values-requires c).Start in
-    let f = span_fits s.args.part s.args.width (length s.args.l.now) s.args.item s.requires in
-    rw c.span_of-span.ensures (f.count_max, f.end)
+pub slice_bounds-copy_from_slice-end : goal.slice_bounds-copy_from_slice-end
+slice_bounds-copy_from_slice-end c =
+    let k = length c.args.l.now in
+    let f : InSpan c.span_of-span.result k = rw c.span_of-span.ensures (span_fits c.args.part c.args.width k c.args.item c.requires) in
+    search rules

@@ -1,9 +1,8 @@
-use mathlib.Core.Path.{sym, ◌∙◌}
+use mathlib.Core.Path.{sym}
 use native.Mathlib.Omega.{arith}
-use borrow.Author.Tests.{ltb-true, ltb-false}
 use Rattle.quality_spec.proofs.Peak.{leading_stays, leading_moves, leading_end, peak_is}
 use Rattle.quality.proofs.peak_of.Goals as goal
-use Rattle.quality.proofs.peak_of.Goals.{then-is_larger_ratio, else-is_larger_ratio, In-loop-m, Start}
+use Rattle.quality.proofs.peak_of.Goals.{then-spreads-k, else-spreads-k, In-loop-m, Start}
 
 pub loop-m-preserved : goal.loop-m-preserved
 loop-m-preserved c =
@@ -11,14 +10,13 @@ loop-m-preserved c =
     let s = (goal.at.loop-m-preserved c).Start in
     let l = here.loop-m in
     let i = l.invariant.1.1 in
-    let t = here.loop-m-test.true in
-    let e = c.is_larger_ratio.ensures in (
+    let t = here.loop-m-test.true in (
       omega arith,
       (
         omega arith,
-        elim c.if-is_larger_ratio.branch [
-          | then-is_larger_ratio w ↦ rw w.k-is (leading_moves l.m _ _ l.k (λ j lj. (s.requires.by_index_2 j (omega arith)).0) i (ltb-true _ _ (sym e ∙ w.if-is_larger_ratio.true)))
-          | else-is_larger_ratio w ↦ rw w.k-is (leading_stays l.m _ _ l.k i (ltb-false _ _ (sym e ∙ w.if-is_larger_ratio.false)))
+        elim c.if-spreads-k.branch [
+          | then-spreads-k w ↦ rw w.k-is (leading_moves l.m _ _ l.k (λ j lj. (s.requires.by_index_2 j (omega arith)).0) i w.if-spreads-k.true)
+          | else-spreads-k w ↦ rw w.k-is (leading_stays l.m _ _ l.k i w.if-spreads-k.false)
         ],
       ),
     )

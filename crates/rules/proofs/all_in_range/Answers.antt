@@ -1,14 +1,9 @@
-use mathlib.Core.Path.{sym}
-use Rattle.integer.proofs.Machine.{read}
-use Rattle.rules.proofs.AllInRange.{all_none, all_next}
+use lib.IntN.{pos}
+use Rattle.rules.specs.Range.{in_range, all_in_range}
+use Rattle.rules.proofs.Front.{every_front}
 use Rattle.std.proofs.Common.{rules}
+use Rattle.std.proofs.iter.runs.Made.{chains}
 use Rattle.rules.proofs.all_in_range.Goals as goal
 
-pub loop-i-init : goal.loop-i-init
-loop-i-init c = (search rules, sym (all_none _ _))
-
-pub loop-i-preserved : goal.loop-i-preserved
-loop-i-preserved c = (
-  search rules,
-  rw (c.is_in_range-all.ensures, read _ c.is_in_range-arg-1.given, c.loop-i.invariant.1) (sym (all_next _ _ _)),
-)
+pub returns : goal.returns
+returns c = unfold all_in_range in every_front (in_range c.args.kind) (pos 0) c.args.xs.now c.args.n c.requires (search (rules, chains))

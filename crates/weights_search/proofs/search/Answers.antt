@@ -1,6 +1,7 @@
 use mathlib.Core.Path.{◌≡◌, sym, ◌∙◌}
 use mathlib.Core.Bool.{Bool, true, false}
 use mathlib.Core.List.{[]}
+use Rattle.std.proofs.Common.{Some}
 use Prim.Native.Nat.{ℕ, ◌+◌, ◌*◌, ◌^◌, ◌<◌}
 use native.Mathlib.Omega.{arith}
 use borrow.Author.Count.{below_more}
@@ -13,12 +14,15 @@ use Rattle.enclosure.specs.Problem.{Problem, problem_of}
 use Rattle.enclosure.specs.Reckoning.{defect}
 use Rattle.check_arrays.specs.Arrays.{PrefixIs}
 use Rattle.check_arrays.proofs.Filled.{prefix_as}
-use Rattle.weights_spec.specs.Sequence.{loads, tried, good}
+use Rattle.weights_spec.specs.Sequence.{loads, tried, good, first_good}
 use Rattle.weights_spec.proofs.Lists.{tried_next}
 use Rattle.weights_steps.specs.Steps.{Below, stored_margin}
 use Rattle.weights_steps.proofs.Stored.{magnitudes_at, magnitudes_below, below_of, load_is, good_is, next_is, ones}
 use Rattle.weights_search.proofs.search.Goals as goal
 use Rattle.weights_search.proofs.search.Goals.{After-defect_magnitudes-magnitudes, After-is_good, After-loads_of-loads, Else-is_good, Start}
+
+some_same : {A : Type 0} {x y : A} → Some x ≡ Some y → x ≡ y
+some_same e = cc
 
 abbrev P : Start → Problem
 P s = problem_of s.args.n 0 s.args.t s.args.matrix.now [] [] [] s.args.inverse.now []
@@ -56,9 +60,11 @@ pub returns-then-is_good : goal.returns-then-is_good
 returns-then-is_good c =
     let a = (goal.at.returns-then-is_good c).After-loads_of-loads in
     let l = a.loop-passed in
+    let here : l.passed ≡ first_good (P (goal.at.returns-then-is_good c).Start) a.args.allowance =
+    sym (first_is _ (λ (k : ℕ). good (P (goal.at.returns-then-is_good c).Start) (tried (P (goal.at.returns-then-is_good c).Start) k)) l.passed a.loop-passed-test.true (told (goal.at.returns-then-is_good c).After-is_good true c.if-is_good.true) l.invariant.1.1) in
     record {
-      place = sym (first_is _ (λ (k : ℕ). good (P (goal.at.returns-then-is_good c).Start) (tried (P (goal.at.returns-then-is_good c).Start) k)) l.passed a.loop-passed-test.true (told (goal.at.returns-then-is_good c).After-is_good true c.if-is_good.true) l.invariant.1.1);
-      list = l.invariant.1.0;
+      found = λ r e. rw (← some_same e) record { place = here; allowed = a.loop-passed-test.true; list = l.invariant.1.0 };
+      none = λ e. absurd (cc);
     }
 
 pub loop-passed-preserved : goal.loop-passed-preserved
@@ -77,10 +83,9 @@ pub returns : goal.returns
 returns c =
     let l = c.loop-passed in
     let s = (goal.at.returns c).Start in
-    let z : l.passed ≡ s.args.allowance = omega arith in
     record {
-      place = z ∙ sym (first_never s.args.allowance (λ (k : ℕ). good (P (goal.at.returns c).Start) (tried (P (goal.at.returns c).Start) k)) (λ k lk. l.invariant.1.1 k (omega arith)));
-      list = l.invariant.1.0;
+      found = λ r e. absurd (cc);
+      none = λ e. first_never s.args.allowance (λ (k : ℕ). good (P s) (tried (P s) k)) (λ k lk. l.invariant.1.1 k (omega arith));
     }
 
 pub loads_of-loads-requires-clause-below : goal.loads_of-loads-requires-clause-below

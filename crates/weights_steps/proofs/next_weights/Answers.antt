@@ -1,7 +1,8 @@
 use mathlib.Core.Path.{◌≡◌}
 use Prim.Native.Nat.{ℕ, ◌/◌, ◌^◌, ◌≤◌, ◌<◌}
 use native.Mathlib.Omega.{arith}
-use lib.ListN.{get_or}
+use lib.ListN.{get_or, length-take}
+use Rattle.std.proofs.lemmas.List.{get_or-take}
 use Rattle.integer.specs.Finite.{largest}
 use Rattle.integer.proofs.Search.{largest_at}
 use Rattle.weights_spec.specs.Sequence.{bits}
@@ -27,4 +28,6 @@ pub overflow_shr-out : goal.overflow_shr-out
 overflow_shr-out c = omega (arith, count_few (goal.at.overflow_shr-out c).After-bits_of-count)
 
 pub overflow_add-out : goal.overflow_add-out
-overflow_add-out c = omega (arith, small (goal.at.overflow_add-out c).After-bits_of-count _ c.loop-i-test.true)
+overflow_add-out c =
+    let inside : c.loop-i.i < c.args.n = omega (arith, length-take {A = ℕ}) in
+    rw (get_or-take c.args.n c.args.loads.now c.loop-i.i 0 inside) (omega (arith, small (goal.at.overflow_add-out c).After-bits_of-count _ inside))

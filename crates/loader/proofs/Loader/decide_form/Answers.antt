@@ -1,10 +1,6 @@
+use Rattle.std.proofs.Common.{rules}
 use Rattle.loader.proofs.Form.{fits_of}
 use Rattle.loader.proofs.Loader.decide_form.Goals as goal
-use Rattle.loader.proofs.Loader.decide_form.Goals.{After-item_of-item, After-judge_form-outcome}
 
 pub advance-requires : goal.advance-requires
-advance-requires c =
-    let j = (goal.at.advance-requires c).After-judge_form-outcome in
-    let i = (goal.at.advance-requires c).After-item_of-item in
-    let a = i.args in
-    fits_of a.self a.form a.numbers.count a.numbers.inside i.item_of-item.ensures j.judge_form-outcome.ensures c.in-Accepted.is
+advance-requires c = fits_of c.args.self c.args.form c.args.numbers.count c.args.numbers.inside c.item_of-item.ensures c.judge_form.ensures (search rules)

@@ -1,9 +1,0 @@
-use mathlib.Core.Bool.{false}
-use mathlib.Core.Path.{◌≡◌}
-use Prim.Native.Nat.{ℕ, ◌+◌, ◌≤◌, ◌<◌}
-use Rattle.linear.specs.Slice.{at}
-use Rattle.check_arrays.specs.Parts.{above_allowed}
-use Rattle.check_residuals.proofs.first_above.Given as goal
-
-abbrev pub invariant-loop-k : goal.invariant-loop-k
-invariant-loop-k l = (l.k ≤ l.n) × ((l.place ≡ l.start + l.k) × ((i : ℕ) → i < l.k → above_allowed (at l.allowed i) (at l.residuals (l.start + i)) ≡ false))
