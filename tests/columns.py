@@ -65,6 +65,7 @@ class Writers:
         """What a function does with a list, a fault in words each time, or None."""
         body, whole = function.body, {parameter for parameter, kind in typed(function) if kind in WHOLE}
         each = {body[at + 2] for at, token in enumerate(body) if token == "for" and body[at + 1] == "&" and body[at + 3 : at + 5] == ["in", "&"] and body[at + 5] in whole}
+        each -= {body[at + 2 if body[at + 1] == "mut" else at + 1] for at, token in enumerate(body) if token == "let"}  # bound again
         for at in (at for at, token in enumerate(body) if token == name and body[at - 1] != "."):
             if body[at + 1 : at + 3] == [".", "len"]:
                 yield None

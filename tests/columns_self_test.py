@@ -22,6 +22,7 @@ MUTANTS = {
     "an array that the writer fills": "fn check(bounds: &mut [u64], n: usize) { let mut column = [0u64; 32]; for i in 0..n { column[i] = limit(i); bounds[i] = column[i]; } }",
     "a sum of elements": "fn store(dst: &mut [u64], c: [u64; 32]) { dst[0] = c[0] + 1; } fn check(bounds: &mut [u64], c: [u64; 32]) { store(bounds, c); }",
     "a sum of what is gone along": "fn store(dst: &mut [u64], c: [u64; 32]) { for &limit in &c[..2] { dst[0] = limit + 1; } } fn check(bounds: &mut [u64], c: [u64; 32]) { store(bounds, c); }",
+    "what is gone along, bound again": "fn store(dst: &mut [u64], c: [u64; 32]) { for &limit in &c[..2] { let limit = limit + 1; dst[0] = limit; } } fn check(bounds: &mut [u64], c: [u64; 32]) { store(bounds, c); }",
     "gone along what may change": "fn store(dst: &mut [u64], c: &mut [u64]) { for &limit in &c[..2] { dst[0] = limit; } } fn check(bounds: &mut [u64], c: [u64; 32]) { store(bounds, &mut c); }",
     "a part of what may change": "fn copy(dst: &mut [u64], c: &mut [u64]) { dst[..2].copy_from_slice(&c[..2]); } fn check(bounds: &mut [u64], c: [u64; 32]) { copy(bounds, &mut c); }",
     "added to": "fn store(dst: &mut [u64], c: [u64; 32]) { dst[0] += c[0]; } fn check(bounds: &mut [u64], c: [u64; 32]) { store(bounds, c); }",
