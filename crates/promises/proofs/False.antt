@@ -227,3 +227,9 @@ unfolding sumℕ
 not_three_kinds_missing h =
     let z : ◌≡◌ {A = ℕ} 4 3 = (h begun_loader (spell end) zeros _ zeros begun_taken 4 refl).0 in
     omega (arith, z)
+
+-- ---- number 1 of the part 0, 1 of the list 0, 1, 2 is not number 2 of the list
+pub not_part_turned : wrong.PartTurned → ⊥
+not_part_turned h =
+    let z : ◌≡◌ {A = ℕ} 1 2 = (h 2 2 0 1 0 (record { is = refl }) (lit< tt)).1 (0 ∷ 1 ∷ 2 ∷ []) 0 in
+    omega (arith, z)
