@@ -64,15 +64,13 @@ class Writers:
     def uses(self, function, name):
         """What a function does with a list, a fault in words each time, or None."""
         body, whole = function.body, {parameter for parameter, kind in typed(function) if kind in WHOLE}
-        each = {body[at + 2] for at, token in enumerate(body) if token == "for" and body[at + 1] == "&" and body[at + 3 : at + 5] == ["in", "&"] and body[at + 5] in whole}
-        each -= {body[at + 2 if body[at + 1] == "mut" else at + 1] for at, token in enumerate(body) if token == "let"}  # bound again
         for at in (at for at, token in enumerate(body) if token == name and body[at - 1] != "."):
             if body[at + 1 : at + 3] == [".", "len"]:
                 yield None
             elif body[at + 1] == "[":
                 sign = end_of(body, at + 1)
                 value = body[sign + 1 : body.index(";", sign)]
-                is_element = value[:1] and value[0] in whole and value[1:2] == ["["] and end_of(value, 1) == len(value) or len(value) == 1 and value[0] in each
+                is_element = value[:1] and value[0] in whole and value[1:2] == ["["] and end_of(value, 1) == len(value)
                 is_part = value[:3] == ["copy_from_slice", "(", "&"] and value[3] in whole and value[4] == "[" and end_of(value, 4) == len(value) - 1
                 is_whole = body[sign] == "=" and is_element or body[sign] == "." and is_part
                 self.writers |= {function.name} if is_whole else set()

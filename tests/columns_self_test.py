@@ -8,8 +8,6 @@ RIGHT = {
     "an array by value": STORE + " fn check(bounds: &mut [u64], n: usize) { let column = bounds_of(n); store(bounds, column, n); }",
     "a list that is copied": "fn copy(dst: &mut [u64], src: &[u64], n: usize) { for i in 0..n { dst[i] = src[i]; } } fn check(solution_bounds1: &mut [u64], n: usize)"
     " { let limits = [0u64; 32]; copy(solution_bounds1, &limits, n); }",
-    "a list gone along": "fn store(dst: &mut [u64], column: [u64; 32], n: usize) { for &limit in &column[..n] { dst[0] = limit; } } fn check(bounds: &mut [u64], n: usize)"
-    " { store(bounds, bounds_of(n), n); }",
     "a part that is copied": "fn copy(dst: &mut [u64], src: &[u64], n: usize) { dst[..n].copy_from_slice(&src[..n]); } fn check(bounds: &mut [u64], n: usize)"
     " { let limits = [0u64; 32]; copy(bounds, &limits, n); }",
     "a length": STORE + " fn check(bounds: &mut [u64], c: [u64; 32]) { if bounds.len() < 32 { return; } store(bounds, c, 32); }",
@@ -23,6 +21,10 @@ MUTANTS = {
     "a sum of elements": "fn store(dst: &mut [u64], c: [u64; 32]) { dst[0] = c[0] + 1; } fn check(bounds: &mut [u64], c: [u64; 32]) { store(bounds, c); }",
     "a sum of what is gone along": "fn store(dst: &mut [u64], c: [u64; 32]) { for &limit in &c[..2] { dst[0] = limit + 1; } } fn check(bounds: &mut [u64], c: [u64; 32]) { store(bounds, c); }",
     "what is gone along, bound again": "fn store(dst: &mut [u64], c: [u64; 32]) { for &limit in &c[..2] { let limit = limit + 1; dst[0] = limit; } } fn check(bounds: &mut [u64], c: [u64; 32]) { store(bounds, c); }",
+    "gone along, and bound by another loop": "fn store(dst: &mut [u64], c: [u64; 32]) { for &limit in &c[..2] { } for limit in 0..2 { dst[0] = limit; } } fn check(bounds: &mut [u64], c: [u64; 32]) { store(bounds, c); }",
+    "gone along, and bound by a pattern": "fn store(dst: &mut [u64], c: [u64; 32]) { for &limit in &c[..2] { if let Some(limit) = work(limit) { dst[0] = limit; } } } fn check(bounds: &mut [u64], c: [u64; 32]) { store(bounds, c); }",
+    "gone along, and bound by an arm": "fn store(dst: &mut [u64], c: [u64; 32]) { for &limit in &c[..2] { match work(limit) { limit => { dst[0] = limit; } } } } fn check(bounds: &mut [u64], c: [u64; 32]) { store(bounds, c); }",
+    "gone along, and bound in a pair": "fn store(dst: &mut [u64], c: [u64; 32]) { for &limit in &c[..2] { let (limit, _) = (limit + 1, 0); dst[0] = limit; } } fn check(bounds: &mut [u64], c: [u64; 32]) { store(bounds, c); }",
     "gone along what may change": "fn store(dst: &mut [u64], c: &mut [u64]) { for &limit in &c[..2] { dst[0] = limit; } } fn check(bounds: &mut [u64], c: [u64; 32]) { store(bounds, &mut c); }",
     "a part of what may change": "fn copy(dst: &mut [u64], c: &mut [u64]) { dst[..2].copy_from_slice(&c[..2]); } fn check(bounds: &mut [u64], c: [u64; 32]) { copy(bounds, &mut c); }",
     "added to": "fn store(dst: &mut [u64], c: [u64; 32]) { dst[0] += c[0]; } fn check(bounds: &mut [u64], c: [u64; 32]) { store(bounds, c); }",
