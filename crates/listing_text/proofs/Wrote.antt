@@ -4,24 +4,22 @@
 --   then    — one text after another: the second starts where the first ends
 --   wider   — a text of at most a bytes has at most b, a ≤ b
 --   called  — the same text in other words
---   wrote_bytes — a text was copied
+--   copied, all_copied — one byte more of a text, and all of them
 --   decimal_length — a number below 10^(k + 1) has at most k + 1 digits;  decimal_digits, decimal_sized — 20 below 2^64, 19 up to 2^63
 --   small_length, next_length — one digit below 10; one more than n / 10 has, from 10 on
 --   wrote_digit, wrote_digits — that digit was written; and the last one, after those of n / 10
 --   minus, wrote_unsigned — the digits of a number's magnitude were written, and a minus before them where it is negative
 use mathlib.Core.Path.{◌≡◌, refl, sym, ap, ◌∙◌, subst}
-use mathlib.Core.List.{List, [], ◌∷◌, ◌++◌, append_assoc}
-use borrow.Rule.Slice.PartMut.{put_mid}
-use Rattle.std.proofs.lemmas.Slice.{put_mid-paste}
-use Rattle.std.proofs.lemmas.List.Edits.{paste_all, sets-eq}
-use Prim.Native.Nat.{ℕ, zero, suc, ◌+◌, ◌-◌, ◌/◌, ◌%◌, ◌^◌, ◌≤◌, ◌<◌}
+use mathlib.Core.List.{List, [], ◌∷◌, ◌++◌}
+use Prim.Native.Nat.{ℕ, zero, suc, ◌+◌, ◌/◌, ◌%◌, ◌^◌, ◌≤◌, ◌<◌}
 use native.Mathlib.Nat.{add-zero, add-suc, suc-add, pow-suc}
+use native.Mathlib.Numerals.{add-one}
 use native.Mathlib.Omega.{arith}
 use borrow.Author.Tests.{ltb-true}
 use lib.Dec.{T}
 use lib.IntN.{ℤ, pos, negsuc, nat_abs}
-use lib.ListN.{length, set, length-append}
-use lib.Seq.{sets}
+use lib.ListN.{length, take, get_or, set, length-append}
+use lib.Seq.{sets, take-suc, length-take-le, take-length}
 use lib.Signed.{lt_z}
 use mathlib.Core.Bool.{true, false}
 use Rattle.line_numeral.specs.Decimal.{decimal, numeral}
@@ -34,11 +32,19 @@ sets_append l i [] ws = ap (λ (k : ℕ). sets l k ws) (sym (add-zero i))
 sets_append l i (v ∷ vs) ws =
     sets_append (set l i v) (suc i) vs ws ∙ ap (λ (k : ℕ). sets (sets (set l i v) (suc i) vs) k ws) (suc-add i (length vs) ∙ sym (add-suc i (length vs)))
 
--- a text that was copied into its part of a buffer
-pub wrote_bytes : (l src : List ℕ) {part : List ℕ} (at : ℕ) → at + length src ≤ length l → part ≡ src → Wrote (length src) l at src (put_mid at (at + length src - at) l part) (at + length src)
-wrote_bytes l src {part} at h e = record {
-  end_is = refl;
-  stored = put_mid-paste at (at + length src - at) l part src (length src) e (omega arith) refl ∙ paste_all l at src (length src) refl ∙ rw (sets-eq src l at h, append_assoc);
+pub copied : (l src : List ℕ) (at i : ℕ) → i < length src → set (sets l at (take i src)) (at + i) (get_or src i 0) ≡ sets l at (take (i + 1) src)
+copied l src at i h =
+    let room : i ≤ length src = omega arith in
+    sym
+    (ap (λ (k : ℕ). sets l at (take k src)) (add-one i)
+    ∙ ap (λ (t : List ℕ). sets l at t) (take-suc src i 0 h)
+    ∙ sets_append l at (take i src) (get_or src i 0 ∷ [])
+    ∙ ap (λ (k : ℕ). set (sets l at (take i src)) (at + k) (get_or src i 0)) (length-take-le i src room))
+
+pub all_copied : {l new src : List ℕ} {at i : ℕ} → i ≡ length src → new ≡ sets l at (take i src) → Wrote (length src) l at src new (at + i)
+all_copied {l} {new} {src} {at} {i} e s = record {
+  end_is = omega arith;
+  stored = s ∙ ap (λ (k : ℕ). sets l at (take k src)) e ∙ ap (λ (t : List ℕ). sets l at t) (take-length src);
   end_max = omega arith;
 }
 

@@ -10,9 +10,11 @@ pub fn put_bytes(out: &mut [u8], at: usize, src: &[u8]) -> usize
     requires { at + length src.now ≤ length out.old }
     ensures { Wrote (length src.now) out.old at src.now out.new result }
 {
-    let end = at + src.len();
-    out[at..end].copy_from_slice(src);
-    end
+    // `copy_from_slice` is a call of memmove here, which a caller in C then has to bring.
+    for (i, &byte) in src.iter().enumerate() {
+        out[at + i] = byte;
+    }
+    at + src.len()
 }
 
 // The digits of n, the highest first.

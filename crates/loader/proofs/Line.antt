@@ -21,6 +21,8 @@ use Rattle.std.specs.Prelude.{Result, Ok, Err}
 use Rattle.line_parts.specs.declared.CappedForm.{CappedForm}
 use Rattle.line_parts.specs.declared.Line.{Line}
 use Rattle.line_form.specs.declared.Numbers.{Numbers}
+use lib.IntN.{ℤ}
+use Rattle.loader_values.specs.Capped.{values_in}
 use Rattle.loader_lists.specs.Lists.{Lists, short_lists}
 use Rattle.loader_progress.specs.Progress.{ended}
 use Rattle.loader.specs.declared.AcceptedForm.{AcceptedForm}
@@ -61,28 +63,30 @@ module _ (d : Loader) (l : Lists) (line : List ℕ) where
         whole : code_in d (capped_form f) (numbers_in f).count (numbers_in f).inside ≡ line_answer d l line
         whole = code_capped d f n ∙ sym (answer_form d l line f a b c e)
 
-        of_form_lem : (t : Result AcceptedForm Refusal) → DecidedIn d (capped_form f) (numbers_in f) t → DecidedFor d l line t
+        of_form_lem : {vs : List ℤ} (t : Result AcceptedForm Refusal) → vs ≡ values_in (capped_form f) (numbers_in f).values → DecidedIn d (capped_form f) (numbers_in f) t
+            → DecidedFor d l line vs t
         unfolding loader_after lists_after
-        of_form_lem (Err r) h = h ∙ whole
-        of_form_lem (Ok x) h =
+        of_form_lem (Err r) v h = h ∙ whole
+        of_form_lem (Ok x) v h =
             let y : [] ≡ line_answer d l line = h.says ∙ whole in
             let s : form_code d f ≡ [] = sym (h.says ∙ code_capped d f n) in
             record {
               says = y;
               loader = rw (← y, e) (h.loader ∙ exact_loader d f n s);
               room = rw h.item (exact_room d f n s l a);
-              lists = rw (← y, e, h.item, h.values) (exact_lists d f n s l a);
+              lists = rw (← y, e, h.item, v) (exact_lists d f n s l a);
             }
 
-      by_reading : {m : CappedForm} {z : Numbers} (t : Result AcceptedForm Refusal) (u : Bool) → ltb 320 (length line) ≡ u → (o : Option Form) → reading line ≡ o
-          → (cond u (refused TooLong) (of_reading o)).answer ≡ Ok m → (cond u (refused TooLong) (of_reading o)).numbers ≡ z → d.n < cap_at → DecidedIn d m z t → DecidedFor d l line t
-      by_reading t true c o e h k n g = let x : ◌≡◌ {A = ℕ} 0 1 = cc in absurd (omega arith)
-      by_reading t false c none e h k n g = let x : ◌≡◌ {A = ℕ} 0 1 = cc in absurd (omega arith)
-      by_reading {m} {z} t false c (some f) e h k n g =
+      by_reading : {m : CappedForm} {z : Numbers} {vs : List ℤ} (t : Result AcceptedForm Refusal) (u : Bool) → ltb 320 (length line) ≡ u → (o : Option Form) → reading line ≡ o
+          → (cond u (refused TooLong) (of_reading o)).answer ≡ Ok m → (cond u (refused TooLong) (of_reading o)).numbers ≡ z → d.n < cap_at → vs ≡ values_in m z.values → DecidedIn d m z t → DecidedFor d l line vs t
+      by_reading t true c o e h k n v g = let x : ◌≡◌ {A = ℕ} 0 1 = cc in absurd (omega arith)
+      by_reading t false c none e h k n v g = let x : ◌≡◌ {A = ℕ} 0 1 = cc in absurd (omega arith)
+      by_reading {m} {z} t false c (some f) e h k n v g =
           let x : capped_form f ≡ m = cc in
-          of_form_lem f n c e t (rw (x, k) g)
+          of_form_lem f n c e t (rw (x, k) v) (rw (x, k) g)
 
-      pub decided_form : {r : Line} {m : CappedForm} (t : Result AcceptedForm Refusal) → d.n < cap_at → r ≡ line_of line → r.answer ≡ Ok m → DecidedIn d m r.numbers t → DecidedFor d l line t
+      pub decided_form : {r : Line} {m : CappedForm} {vs : List ℤ} (t : Result AcceptedForm Refusal) → d.n < cap_at → r ≡ line_of line → r.answer ≡ Ok m
+          → vs ≡ values_in m r.numbers.values → DecidedIn d m r.numbers t → DecidedFor d l line vs t
       unfolding line_of
-      decided_form t n e h g =
-          by_reading t (ltb 320 (length line)) refl (reading line) refl (ap (λ (x : Line). x.answer) (sym e) ∙ h) (ap (λ (x : Line). x.numbers) (sym e)) n g
+      decided_form t n e h v g =
+          by_reading t (ltb 320 (length line)) refl (reading line) refl (ap (λ (x : Line). x.answer) (sym e) ∙ h) (ap (λ (x : Line). x.numbers) (sym e)) n v g

@@ -5,10 +5,11 @@
 --   fits x         — its numbers are in their ranges, i in 1 to 32
 --   AcceptedOf   — what an accepted form gives: nothing is said, and there are the loader then and the form to write
 --   DecidedIn      — what is decided of a form: that, or the refusal that is said
---   AcceptedAt   — what an accepted line gives, with the lists l: nothing is said, and there are the loader then, room for the form to write, and what it leaves
+--   AcceptedAt   — what an accepted line gives, with the lists l: nothing is said, and there are the loader then, room for the form to write, and what the numbers
+--                  vs leave, written as that form
 --   DecidedFor     — what is decided of a line, with the lists l: that, or the refusal that is said
 --   DecidedAs      — that, with any lists of which one is too short or none is
-use Rattle.std.specs.Prelude.{Bool, true, false, ◌&&◌, List, [], ◌≡◌, ℕ, Result, Err, MatchResult}
+use Rattle.std.specs.Prelude.{Bool, true, false, ◌&&◌, List, [], ◌≡◌, ℕ, ℤ, Result, Err, MatchResult}
 use Rattle.rules.specs.Order.{verdict}
 use Rattle.rules.specs.Range.{in_range}
 use Rattle.rules.specs.Refusal.{code}
@@ -17,7 +18,7 @@ use Rattle.rules.specs.declared.Refusal.{Refusal}
 use Rattle.line_parts.specs.declared.CappedForm.{CappedForm}
 use Rattle.line_form.specs.declared.Numbers.{Numbers}
 use Rattle.loader_values.specs.Item.{placed}
-use Rattle.loader_values.specs.Capped.{item_in, outside_in, miscounted_in, values_in}
+use Rattle.loader_values.specs.Capped.{item_in, outside_in, miscounted_in}
 use Rattle.loader_values.specs.declared.Item.{Item}
 use Rattle.loader_values.specs.declared.Item.TheVariants.{Problem, Scale, Of, End}
 use Rattle.loader_values.specs.declared.Part.TheVariants.{Weight}
@@ -59,19 +60,18 @@ pub record AcceptedOf (d : Loader) (m : CappedForm) (z : Numbers) (a : AcceptedF
   pub says : [] ≡ code_in d m z.count z.inside
   pub loader : a.loader ≡ after d (item_in m)
   pub item : a.item ≡ item_in m
-  pub values : a.values ≡ values_in m z.values
 
 abbrev pub DecidedIn : Loader → CappedForm → Numbers → Result AcceptedForm Refusal → Type 0
 DecidedIn d m z r = MatchResult r (AcceptedOf d m z) (λ (x : Refusal). code (Err x) ≡ code_in d m z.count z.inside)
 
-pub record AcceptedAt (d : Loader) (l : Lists) (line : List ℕ) (a : AcceptedForm) : Type 0 where
+pub record AcceptedAt (d : Loader) (l : Lists) (line : List ℕ) (vs : List ℤ) (a : AcceptedForm) : Type 0 where
   pub says : [] ≡ line_answer d l line
   pub loader : a.loader ≡ loader_after d l line
   pub room : Rooms d.n a.item l
-  pub lists : closed d.n (set_of d.sets Weight) a.item (pasted_all d.n a.item a.values l) ≡ lists_after d l line
+  pub lists : closed d.n (set_of d.sets Weight) a.item (pasted_all d.n a.item vs l) ≡ lists_after d l line
 
-abbrev pub DecidedFor : Loader → Lists → List ℕ → Result AcceptedForm Refusal → Type 0
-DecidedFor d l line r = MatchResult r (AcceptedAt d l line) (λ (x : Refusal). code (Err x) ≡ line_answer d l line)
+abbrev pub DecidedFor : Loader → Lists → List ℕ → List ℤ → Result AcceptedForm Refusal → Type 0
+DecidedFor d l line vs r = MatchResult r (AcceptedAt d l line vs) (λ (x : Refusal). code (Err x) ≡ line_answer d l line)
 
-abbrev pub DecidedAs : Loader → Bool → List ℕ → Result AcceptedForm Refusal → Type 0
-DecidedAs d short line r = (l : Lists) → short_lists l ≡ short → DecidedFor d l line r
+abbrev pub DecidedAs : Loader → Bool → List ℕ → List ℤ → Result AcceptedForm Refusal → Type 0
+DecidedAs d short line vs r = (l : Lists) → short_lists l ≡ short → DecidedFor d l line vs r

@@ -38,7 +38,6 @@ pub struct Taken {
 struct AcceptedForm {
     loader: Loader,
     item: Item,
-    values: [i64; 32],
 }
 
 impl Loader {
@@ -175,13 +174,18 @@ impl Loader {
         Ok(AcceptedForm {
             loader: self.advance(item),
             item,
-            values: loader_values::values_of(form, numbers.values),
         })
     }
 
-    // What is decided of a line; short: whether a lent list is too short.
-    fn decide(self, short: bool, line: &[u8]) -> Result<AcceptedForm, Refusal>
-        ensures { DecidedAs self short line.now result }
+    // What is decided of a line; short: whether a lent list is too short. The numbers of its form go into a lent array, and not into the Result, which would be
+    // copied with them at each return: a take of one number then takes 1.4 times as long.
+    fn decide(
+        self,
+        short: bool,
+        line: &[u8],
+        values: &mut [i64; 32],
+    ) -> Result<AcceptedForm, Refusal>
+        ensures { DecidedAs self short line.now values.new result }
     {
         if short {
             return Err(Refusal::TooShort);
@@ -191,6 +195,7 @@ impl Loader {
         }
         let read = line::read_line(line);
         let form = read.answer?;
+        *values = loader_values::values_of(form, read.numbers.values);
         self.decide_form(form, read.numbers)
     }
 
@@ -220,7 +225,8 @@ impl Loader {
             inverse.len(),
             weights.len(),
         );
-        match self.decide(short, line) {
+        let mut values = [0i64; 32];
+        match self.decide(short, line, &mut values) {
             Err(refusal) => Taken {
                 loader: self,
                 outcome: Err(refusal),
@@ -229,7 +235,7 @@ impl Loader {
                 let given = loader_progress::set_of(self.sets, Part::Weight);
                 loader_lists::write_all(
                     accepted.item,
-                    accepted.values,
+                    &values,
                     given,
                     self.n as usize,
                     matrix,
