@@ -46,10 +46,13 @@ pub fn common_interval(
         n1, s1, t1, matrix1, right1, tolerance1, guess1, inverse1, weights1,
     );
     first.outcome.map_err(CommonRefusal::First)?;
+    // The limits alone are lent on: a reference into what is held would keep 8 kB of inverse limits alive, here and for the second.
+    let limits1 = first.solution;
     let second = check_held(
         n2, s2, t2, matrix2, right2, tolerance2, guess2, inverse2, weights2,
     );
     second.outcome.map_err(CommonRefusal::Second)?;
+    let limits2 = second.solution;
     let size = n1 as usize;
     if !are_equations_same(
         size,
@@ -66,12 +69,12 @@ pub fn common_interval(
     let heights1 = Heights {
         s: s1,
         guess: guess1,
-        limits: &first.solution,
+        limits: &limits1,
     };
     let heights2 = Heights {
         s: s2,
         guess: guess2,
-        limits: &second.solution,
+        limits: &limits2,
     };
     meet(size, heights1, heights2, low, high)
 }

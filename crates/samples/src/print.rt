@@ -41,8 +41,12 @@ fn print_given(output: Stdout, x: u64) {
 
 // A number after a space.
 fn print_signed(output: Stdout, x: i64) {
-    print_text(output, b" ");
-    let _ = output.print(x);
+    if x < 0 {
+        print_text(output, b" -");
+    } else {
+        print_text(output, b" ");
+    }
+    print_number(output, x.unsigned_abs());
 }
 
 // The first numbers of a list, each after a space.
@@ -55,10 +59,10 @@ pub fn print_list(output: Stdout, l: &[i64], count: usize) {
 // The first limits of a list; a dash where none was written.
 fn print_bounds(output: Stdout, bounds: &[u64], count: usize) {
     for &bound in bounds.iter().take(count) {
-        print_text(output, b" ");
         if bound == UNWRITTEN {
-            print_text(output, b"-");
+            print_text(output, b" -");
         } else {
+            print_text(output, b" ");
             print_number(output, bound);
         }
     }

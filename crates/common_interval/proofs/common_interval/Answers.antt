@@ -66,17 +66,17 @@ returns-then-not-are_equations_same c =
 pub are_equations_same-requires-clause-n1_bound : goal.are_equations_same-requires-clause-n1_bound
 are_equations_same-requires-clause-n1_bound c =
     let q = Q (goal.at.are_equations_same-requires-clause-n1_bound c).Start in
-    (equations_ready q.first q.second (first_code (goal.at.are_equations_same-requires-clause-n1_bound c).In_ok-map_err) (second_code c)).0
+    (equations_ready q.first q.second (first_code (goal.at.are_equations_same-requires-clause-n1_bound c).In_ok-map_err) (second_code (goal.at.are_equations_same-requires-clause-n1_bound c).In_ok-map_err-2)).0
 
 pub are_equations_same-requires-clause-in_bounds : goal.are_equations_same-requires-clause-in_bounds
 are_equations_same-requires-clause-in_bounds c =
     let q = Q (goal.at.are_equations_same-requires-clause-in_bounds c).Start in
-    (equations_ready q.first q.second (first_code (goal.at.are_equations_same-requires-clause-in_bounds c).In_ok-map_err) (second_code c)).1.0
+    (equations_ready q.first q.second (first_code (goal.at.are_equations_same-requires-clause-in_bounds c).In_ok-map_err) (second_code (goal.at.are_equations_same-requires-clause-in_bounds c).In_ok-map_err-2)).1.0
 
 pub are_equations_same-requires-clause-in_bounds_2 : goal.are_equations_same-requires-clause-in_bounds_2
 are_equations_same-requires-clause-in_bounds_2 c =
     let q = Q (goal.at.are_equations_same-requires-clause-in_bounds_2 c).Start in
-    (equations_ready q.first q.second (first_code (goal.at.are_equations_same-requires-clause-in_bounds_2 c).In_ok-map_err) (second_code c)).1.1
+    (equations_ready q.first q.second (first_code (goal.at.are_equations_same-requires-clause-in_bounds_2 c).In_ok-map_err) (second_code (goal.at.are_equations_same-requires-clause-in_bounds_2 c).In_ok-map_err-2)).1.1
 
 pub meet-requires-clause-n_bound : goal.meet-requires-clause-n_bound
 meet-requires-clause-n_bound c =
