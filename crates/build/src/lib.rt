@@ -61,8 +61,8 @@ pub fn gather(observations: &[Observation], start: Progress) -> Gathered
     let mut progress = start;
     let mut seen = no_lines();
     let end = few_of(start, observations.len());
-    for &l in &observations[..end] {
-        progress = add_observation(progress, &mut seen, l);
+    for i in 0..end {
+        progress = add_observation(progress, &mut seen, observations[i]);
     }
     as_gathered(progress, seen)
 }

@@ -1,7 +1,7 @@
 -- Rows of C as parts of its list, and lists copied.
 --   row_bounded — each number of a row, taken as a part of the list, is within the row's bound
 --   row_total — the sum along that part and the limits is the slack's sum along the row
---   copied — a front of one list in place of the front of another
+--   front_copied — a front of one list in place of the front of another
 use Rattle.std.proofs.Common.{◌≡◌, refl, sym, ap, ◌∙◌, List, ◌++◌, ℕ, zero, suc, ◌+◌, ◌*◌, ◌≤◌, ◌<◌, ℤ, pos, nat_abs, length, get_or, set, take, drop, min, arith, add-one, zero-add, length-take}
 use Rattle.std.specs.List.{between, sum_by, zip}
 use Rattle.std.proofs.lemmas.List.{take_all, get_or_default}
@@ -45,11 +45,11 @@ module _ {xs : List ℤ} {k marks row b : ℕ} (start : Carried 0 marks k row) (
       ∙ front_total capped_term (pos 0, 0) (zip ks es) marks (omega (arith, length-zip ks es))
       ∙ sumℕ_ext marks _ _ term
 
-pub copied : (d s : List ℕ) (n : ℕ) → n ≤ length d → n ≤ length s → take n s ++ drop n d ≡ written d 0 1 (λ (i : ℕ). get_or s i 0) n
+pub front_copied : (d s : List ℕ) (n : ℕ) → n ≤ length d → n ≤ length s → take n s ++ drop n d ≡ written d 0 1 (λ (i : ℕ). get_or s i 0) n
 unfolding written
-copied d s zero h k = refl
-copied d s (suc n) h k =
+front_copied d s zero h k = refl
+front_copied d s (suc n) h k =
     let e : 0 + n * 1 ≡ n = omega arith in
     let step : set (take n s ++ drop n d) n (get_or s n 0) ≡ take (n + 1) s ++ drop (n + 1) d =
     simp zero-add at (paste_more d 0 s n 0 (omega arith) (omega arith)) in
-    rw (e, ← copied d s n (omega arith) (omega arith), step, add-one) refl
+    rw (e, ← front_copied d s n (omega arith) (omega arith), step, add-one) refl

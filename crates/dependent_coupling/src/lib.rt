@@ -2,7 +2,7 @@
 // row, with as many numbers in a row as the main net has marks.
 #![tactic(auto)]
 
-ghost use Rattle.std.specs.Prelude.{◌≡◌, ℕ, ◌+◌, ◌*◌, ◌≤◌, ◌<◌, ◌^◌, ℤ, pos, nat_abs, ◌-ℤ◌, get_or, length, sum_by, All};
+ghost use Rattle.std.specs.Prelude.{◌≡◌, ℕ, ◌+◌, ◌*◌, ◌≤◌, ◌<◌, ◌^◌, min, ℤ, pos, nat_abs, ◌-ℤ◌, get_or, length, sum_by, All};
 ghost use Rattle.std.specs.List.{zip};
 ghost use Rattle.linear.specs.Matrix.{apply};
 ghost use Rattle.linear.specs.Slice.{at, vector_of, matrix_of};
@@ -11,7 +11,7 @@ ghost use Rattle.linear.specs.Reach.{ColumnList, Reach};
 ghost use Rattle.linear.specs.Written.{written};
 ghost use Rattle.check_arrays.specs.Arrays.{PrefixIs};
 ghost use Rattle.check_arrays.specs.Parts.{residual_from};
-ghost use Rattle.dependent_coupling.specs.Carried.{capped_term, capped_sum};
+ghost use Rattle.dependent_coupling.specs.Carried.{limit_cap, capped_term, capped_sum};
 
 use linear::dot;
 
@@ -52,6 +52,13 @@ pub fn base_of(
     out
 }
 
+// A limit, at most 2^25 + 1.
+fn capped(limit: u64) -> u64
+    ensures { result ≡ min limit limit_cap }
+{
+    limit.min(LIMIT_CAP)
+}
+
 // The sum of |c|·E along a row of C, each limit at most LIMIT_CAP.
 fn carried_along(row: &[i64], limits: &[u64]) -> u64
     requires small { All (λ (c : ℤ). nat_abs c ≤ 2 ^ 20) row.now }
@@ -60,7 +67,7 @@ fn carried_along(row: &[i64], limits: &[u64]) -> u64
 {
     row.iter()
         .zip(limits)
-        .map(|(c, limit)| c.unsigned_abs() * (*limit).min(LIMIT_CAP))
+        .map(|(c, limit)| c.unsigned_abs() * capped(*limit))
         .sum()
 }
 

@@ -1,6 +1,4 @@
-use Rattle.std.proofs.Common.{ap, ◌≤◌, ◌<◌, ◌∙◌, sym, length, arith}
-use Rattle.std.proofs.lemmas.List.{get_or-take, length-take}
-use Rattle.build_lines.specs.declared.Observation.{Observation}
+use Rattle.std.proofs.Common.{ap, ◌≤◌, ◌<◌, ◌∙◌, sym, length, rules, arith}
 use Rattle.build_gathering.specs.Gathered.{together, gathered, no_lines}
 use Rattle.build_gathering.proofs.Whole.{gathered_none, gathered_next, gathered_end, few_within}
 use Rattle.build.proofs.gather.Goals as goal
@@ -9,20 +7,23 @@ use Rattle.build.proofs.gather.Goals.{After-few_of-end}
 within : (c : After-few_of-end) → c.few_of-end.result ≤ length c.args.observations.now
 within c = rw c.few_of-end.ensures (few_within _ _)
 
-pub slice_bounds-l-items-end : goal.slice_bounds-l-items-end
-slice_bounds-l-items-end c = let w = within c in omega (arith, length-take {A = Observation})
+pub loop-i-init : goal.loop-i-init
+loop-i-init c = (rw c.no_lines-seen.ensures (gathered_none _ _), omega arith)
 
-pub loop-l-init : goal.loop-l-init
-loop-l-init c = rw c.no_lines-seen.ensures (gathered_none _ _)
+pub offset_bounds-observations-i : goal.offset_bounds-observations-i
+offset_bounds-observations-i c =
+    let w = within (goal.at.offset_bounds-observations-i c).After-few_of-end in
+    let l : c.loop-i.i < length c.args.observations.now = omega arith in
+    search rules
 
-pub loop-l-preserved : goal.loop-l-preserved
-loop-l-preserved c =
-    let below : c.loop-l.l-index < c.few_of-end.result = omega (arith, length-take {A = Observation}) in
-    rw (c.loop-l.invariant, get_or-take _ c.args.observations.now c.loop-l.l-index _ below) at c.add_observation-progress.ensures ∙ sym (gathered_next _ _ _)
+pub bounds-observations-i : goal.bounds-observations-i
+bounds-observations-i c =
+    let w = within (goal.at.bounds-observations-i c).After-few_of-end in omega arith
+
+pub loop-i-preserved : goal.loop-i-preserved
+loop-i-preserved c = (rw c.loop-i.invariant.0 at c.add_observation-progress.ensures ∙ sym (gathered_next _ _ _), omega arith)
 
 pub returns : goal.returns
 returns c =
-    let w = within (goal.at.returns c).After-few_of-end in
-    c.as_gathered.ensures ∙ c.loop-l.invariant
-    ∙ gathered_end _ _ (omega (arith, length-take {A = Observation})) (omega (arith, length-take {A = Observation}))
+    c.as_gathered.ensures ∙ c.loop-i.invariant.0 ∙ gathered_end _ _ (omega arith) (omega arith)
     ∙ ap (gathered (together c.args.start no_lines) c.args.observations.now) c.few_of-end.ensures

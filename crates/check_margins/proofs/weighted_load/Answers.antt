@@ -41,6 +41,10 @@ module _ (c : In-Some) where
       turn.2 (pos 0) ∙ get_or-between c.args.defects.now c.args.row (c.args.row + c.args.n) k (pos 0) (omega (arith, inside)) ∙ rw (start_place c.requires.n_bound.1.1) in
       ap (λ (z : ℤ). to_z w64 (of_z w64 z)) here ∙ to_z-of_z w64 _ (small _ (omega (arith, d_small)))
 
+  -- any weight as it is read, of whichever row
+  weights_small : (j : ℕ) → j < c.args.n → nat_abs (to_z w64 (of_z w64 (at c.args.weights.now j))) ≤ 1024
+  weights_small j l = let h = c.requires.column_list_2.within.magnitudes j l in rw (to_z-of_z w64 (at c.args.weights.now j) (small (at c.args.weights.now j) (omega (arith, h)))) h
+
   w_small : nat_abs (at c.args.weights.now k) ≤ 1024
   w_small = c.requires.column_list_2.within.magnitudes _ inside
 
@@ -50,7 +54,7 @@ module _ (c : In-Some) where
 pub weigh-sum-requires : goal.weigh-sum-requires
 weigh-sum-requires c =
     let s = (goal.at.weigh-sum-requires c).In-Some in
-    rw (d_read s, w_read s) (load_magnitude c.requires.column_list c.requires.column_list_2 c.requires.n_bound.1.0 (k s) c.requires.n_bound.0 (omega (arith, inside s)) c.loop-d.invariant, (d_small s, w_small s))
+    (load_magnitude c.requires.column_list c.requires.column_list_2 c.requires.n_bound.1.0 (k s) c.requires.n_bound.0 (omega (arith, inside s)) c.loop-d.invariant, (rw (d_read s) (d_small s), search (rules, (turn s).3 (pos 0), weights_small s, inside s)))
 
 pub loop-d-init : goal.loop-d-init
 loop-d-init c = sym (sumℕ_none _)

@@ -23,6 +23,10 @@ module _ (s : Start) where
   row_is : dot_of s.args.coupling.now s.args.row 1 s.args.guess.now 0 1 s.args.marks ≡ apply s.args.marks (matrix_of s.args.coupling.now s.args.marks) (vector_of s.args.guess.now) s.args.k
   row_is = rw (start_place s.requires.carried) (dot_row s.args.marks s.args.coupling.now s.args.guess.now s.args.k)
 
+-- what is taken from base: row k of C times the guess
+row_taken : (c : After-dot) → c.dot.result ≡ apply c.args.marks (matrix_of c.args.coupling.now c.args.marks) (vector_of c.args.guess.now) c.args.k
+row_taken c = c.dot.ensures ∙ row_is (goal.at.After-dot c).Start
+
 fits : (c : After-dot) → SFits w64 (c.args.base -ℤ c.dot.result)
 fits c =
     small (c.args.base -ℤ c.dot.result)
@@ -33,4 +37,4 @@ overflow_sub-result c = simp (read, c.ranges.base.sfits, c.dot.type_inv) (fits c
 
 pub returns : goal.returns
 returns c =
-    simp (read, c.ranges.base.sfits, c.dot.type_inv) (to_z-of_z w64 _ (fits c) ∙ ap (λ z. c.args.base -ℤ z) (c.dot.ensures ∙ row_is (goal.at.returns c).Start))
+    simp (read, c.ranges.base.sfits, c.dot.type_inv) (to_z-of_z w64 _ (fits c) ∙ ap (λ z. c.args.base -ℤ z) (row_taken (goal.at.returns c).After-dot))

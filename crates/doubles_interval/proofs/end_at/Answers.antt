@@ -21,10 +21,10 @@ pub returns-then-farther : goal.returns-then-farther
 returns-then-farther c =
     let i = (goal.at.returns-then-farther c).Else-a-eq0 in
     (rw (read c.args.z c.ranges.z.sfits) at c.away_from_zero.ensures)
-    ∙ end_away c.args.s c.args.z c.unsigned_abs-a.result (magnitude_is (goal.at.returns-then-farther c).After-unsigned_abs-a) (some i) _ c.args.low refl (rw (read c.args.z c.ranges.z.sfits) at c.if-farther.true)
+    ∙ end_away c.args.s c.args.z c.unsigned_abs-a.result (magnitude_is (goal.at.returns-then-farther c).After-unsigned_abs-a) (some i) _ c.args.low refl (search (rules, read c.args.z c.ranges.z.sfits))
 
 pub returns-else-farther : goal.returns-else-farther
 returns-else-farther c =
     let i = (goal.at.returns-else-farther c).Else-a-eq0 in
     (rw (read c.args.z c.ranges.z.sfits) at c.toward_zero.ensures)
-    ∙ end_toward c.args.s c.args.z c.unsigned_abs-a.result (magnitude_is (goal.at.returns-else-farther c).After-unsigned_abs-a) (some i) _ c.args.low refl (rw (read c.args.z c.ranges.z.sfits) at c.if-farther.false)
+    ∙ end_toward c.args.s c.args.z c.unsigned_abs-a.result (magnitude_is (goal.at.returns-else-farther c).After-unsigned_abs-a) (some i) _ c.args.low refl (search (rules, read c.args.z c.ranges.z.sfits))
