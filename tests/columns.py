@@ -64,6 +64,7 @@ class Writers:
     def uses(self, function, name):
         """What a function does with a list, a fault in words each time, or None."""
         body, whole = function.body, {parameter for parameter, kind in typed(function) if kind in WHOLE}
+        whole -= {body[at + 2 if body[at + 1] == "mut" else at + 1] for at, token in enumerate(body) if token in ("let", "for")}  # bound again
         for at in (at for at, token in enumerate(body) if token == name and body[at - 1] != "."):
             if body[at + 1 : at + 3] == [".", "len"]:
                 yield None

@@ -27,6 +27,8 @@ MUTANTS = {
     "gone along, and bound in a pair": "fn store(dst: &mut [u64], c: [u64; 32]) { for &limit in &c[..2] { let (limit, _) = (limit + 1, 0); dst[0] = limit; } } fn check(bounds: &mut [u64], c: [u64; 32]) { store(bounds, c); }",
     "gone along what may change": "fn store(dst: &mut [u64], c: &mut [u64]) { for &limit in &c[..2] { dst[0] = limit; } } fn check(bounds: &mut [u64], c: [u64; 32]) { store(bounds, &mut c); }",
     "a part of what may change": "fn copy(dst: &mut [u64], c: &mut [u64]) { dst[..2].copy_from_slice(&c[..2]); } fn check(bounds: &mut [u64], c: [u64; 32]) { copy(bounds, &mut c); }",
+    "a part of what is bound again": "fn copy(dst: &mut [u64], c: &[u64]) { let c = work(c); dst[..2].copy_from_slice(&c[..2]); } fn check(bounds: &mut [u64], c: [u64; 32]) { copy(bounds, &c); }",
+    "a part of what a loop binds": "fn copy(dst: &mut [u64], c: &[u64]) { for c in all { dst[..2].copy_from_slice(&c[..2]); } } fn check(bounds: &mut [u64], c: [u64; 32]) { copy(bounds, &c); }",
     "added to": "fn store(dst: &mut [u64], c: [u64; 32]) { dst[0] += c[0]; } fn check(bounds: &mut [u64], c: [u64; 32]) { store(bounds, c); }",
     "a list that may change": "fn store(dst: &mut [u64], c: &mut [u64]) { dst[0] = c[0]; } fn check(bounds: &mut [u64], c: [u64; 32]) { store(bounds, &mut c); }",
     "another name": STORE + " fn check(bounds: &mut [u64], c: [u64; 32]) { store(bounds, c, 1); let list = bounds; list[0] = 1; }",

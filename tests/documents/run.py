@@ -3,7 +3,7 @@
   python3 tests/documents/run.py               after `make` and `make lib`; the last line is 'N passed, M failed'
   python3 tests/documents/run.py --self-test   made-up documents, right ones and the mutants of self_test.py; needs nothing built
 
-Read are README.md, CONTRIBUTING.md, docs/*.md, tests/README.md and bench/README.md; docs/landings, docs/PORT.md, docs/DESIGN-PASS.md and CHANGELOG.md describe the past: of
+Read are README.md, CONTRIBUTING.md, docs/*.md, tests/README.md and bench/README.md; docs/landings, docs/PORT.md, docs/DESIGN-PASS.md, docs/LOOK-BACK.md and CHANGELOG.md describe the past: of
 CHANGELOG.md only the lengths of lines are read.
 
 1. Links lead to files of the repository, and what follows '#' is a heading there. No link leaves the repository.
@@ -40,7 +40,7 @@ spec = importlib.util.spec_from_file_location("names_run", NAMES / "run.py")
 names = importlib.util.module_from_spec(spec)
 spec.loader.exec_module(names)
 
-READ = r"README\.md|CONTRIBUTING\.md|docs/(?!(?:PORT|DESIGN-PASS)\.md)[^/]+\.md|tests/README\.md|bench/README\.md"
+READ = r"README\.md|CONTRIBUTING\.md|docs/(?!(?:PORT|DESIGN-PASS|LOOK-BACK)\.md)[^/]+\.md|tests/README\.md|bench/README\.md"
 LENGTHS = {"README.md": (150, 120), "CONTRIBUTING.md": (200, 200)}
 FILE = re.compile(r"[\w./-]+\.(?:md|svg|txt|csv|h|c|cpp|rs|1|sh|toml)")
 PAGE = re.compile(r"(?<![\w/.-])[A-Z][A-Z-]*\.md\b")

@@ -7,7 +7,7 @@ NET = "kodarfi_net.h"
 # Mutants of headers: the program that must detect it, the file, a text in it and another text for it. Every constant is tried one off, too (off_by_one).
 HEADERS = {
     "fewer bytes decide a file": ("constants", "kodarfi.h", "KODARFI_FILE_LENGTH 65536", "KODARFI_FILE_LENGTH 21299"),
-    "less stack than a conversion takes": ("stack", "kodarfi.h", "KODARFI_STACK_MAX 114688", "KODARFI_STACK_MAX 90112"),
+    "less stack than a conversion takes": ("stack", "kodarfi.h", "KODARFI_STACK_MAX 114688", "KODARFI_STACK_MAX 86016"),
     "from after to": ("constants", "kodarfi.h", "    uint32_t from;\n    uint32_t to;\n", "    uint32_t to;\n    uint32_t from;\n"),
     "a weight before the difference": ("constants", "kodarfi.h", "    int64_t difference;\n    uint32_t weight;\n", "    uint32_t weight;\n    int64_t difference;\n"),
     "a difference of 32 bits": ("constants", "kodarfi.h", "int64_t difference;", "int32_t difference;"),

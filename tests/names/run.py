@@ -4,7 +4,7 @@
   python3 tests/names/run.py --self-test   made-up documents, right ones and the mutants of self_test.py
 
 Read are README.md, tests/README.md, docs/*.md, include/*.h, and the head comments of crates: the lines of comment before the first other line of each file
-of specs/, proofs/ and src/. docs/landings, docs/PORT.md, docs/DESIGN-PASS.md and CHANGELOG.md describe the past and are not read. What counts as a citation:
+of specs/, proofs/ and src/. docs/landings, docs/PORT.md, docs/DESIGN-PASS.md, docs/LOOK-BACK.md and CHANGELOG.md describe the past and are not read. What counts as a citation:
 
 1. A file or a folder: a word with a slash that begins with a folder of the repository, or with a crate and specs, proofs, src or must-fail, anywhere; in
    backquotes also a word that ends like a file of the sources (.antt, .rt, .py, .edit, .awk, .tsv). There must be one whose path ends so; .antt may be left
@@ -101,7 +101,7 @@ class Repository:
     def texts(self):
         """(where, text, file) of all that is read: documents line by line, and head comments."""
         for name, path in self.paths.items():
-            if re.fullmatch(r"README\.md|tests/README\.md|docs/(?!(?:PORT|DESIGN-PASS)\.md)[^/]+\.md|include/[^/]+\.h", name):
+            if re.fullmatch(r"README\.md|tests/README\.md|docs/(?!(?:PORT|DESIGN-PASS|LOOK-BACK)\.md)[^/]+\.md|include/[^/]+\.h", name):
                 for number, line in enumerate(path.read_text().split("\n"), 1):
                     yield f"{name}:{number}", line, name
             elif re.match(r"crates/\w+/(?:specs|proofs|src)/", name) and path.suffix in (".antt", ".rt"):
