@@ -1,7 +1,6 @@
 -- Laws of a row summed over the kept lines.
 --   row_none, row_next, row_end — for the loop over the lines;  row_small — a row over some of them has room for one more
 --   row_matrix, row_right — the row over all of them is that of the equations
-use mathlib.Core.List.{List}
 use mathlib.Core.Path.{◌≡◌, refl, sym, ap, subst, ◌∙◌}
 use Prim.Native.Nat.{ℕ, ◌+◌, ◌≤◌, ◌<◌, ◌^◌}
 use native.Mathlib.Nat.{le_antisymm, mul-le-mul, mul-le-mul_right}
@@ -11,15 +10,15 @@ use lib.ListN.{replicate, get_or-replicate}
 use Rattle.integer.specs.Finite.{sum}
 use Rattle.integer.proofs.Sum.{sum_none, sum_next, abs_sum≤}
 use Rattle.linear.specs.Slice.{at}
-use Rattle.build_lines.specs.declared.Observation.{Observation}
 use Rattle.build_lines.specs.Distinct.{weight_at, gain}
 use Rattle.build_lines.proofs.Net.{weight_at_magnitude, gain_magnitude}
 use Rattle.build_gathering.specs.declared.Gathered.{Gathered}
+use Rattle.build_gathering.specs.declared.KeptLines.{KeptLines}
 use Rattle.build_gathering.specs.Gathered.{line_at, ProperLines}
 use Rattle.build_equations.specs.declared.Row.{Row}
 use Rattle.build_equations.specs.Kept.{RowSums, Grown, SmallRow, kept_matrix, kept_right}
 
-module _ (seen : List Observation) (k : ℕ) where
+module _ (seen : KeptLines) (k : ℕ) where
   pub row_none : RowSums seen k 0 (record { sums = replicate 33 (pos 0); right = pos 0 })
   row_none = record {
     long = refl;

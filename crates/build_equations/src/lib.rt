@@ -10,7 +10,7 @@ ghost use Rattle.build_gathering.specs.Gathered.{Proper, ProperLines, Ready};
 ghost use Rattle.build_equations.specs.Written.{width_of, matrix_written, right_written};
 ghost use Rattle.build_equations.specs.Kept.{SmallRow, RowSums, Grown, kept_matrix, kept_right};
 
-use build_gathering::Gathered;
+use build_gathering::{Gathered, KeptLines};
 use build_lines::Observation;
 
 // How a matrix is laid out: row after row, whole rows or the lower half.
@@ -69,7 +69,7 @@ fn grow(row: Row, k: u32, l: Observation) -> Row
 }
 
 // The row of a mark, summed over the kept lines.
-fn row_of(seen: &[Observation; 256], count: usize, k: u32) -> Row
+fn row_of(seen: &KeptLines, count: usize, k: u32) -> Row
     requires { (k ≤ 32) × ProperLines seen.now count }
     ensures { RowSums seen.now k count result }
 {
@@ -77,7 +77,7 @@ fn row_of(seen: &[Observation; 256], count: usize, k: u32) -> Row
         sums: [0i64; 33],
         right: 0,
     };
-    for &l in &seen[..count] {
+    for &l in &seen.lines[..count] {
         if is_at(l, k) {
             row = grow(row, k, l);
         }

@@ -18,13 +18,13 @@ use Rattle.std.specs.Prelude.{Ok}
 use Rattle.build_gathering.specs.declared.Gathered.{Gathered}
 use Rattle.build_lines.specs.declared.Observation.{Observation}
 use Rattle.build_lines.specs.Line.{has_key}
-use Rattle.build_gathering.specs.Gathered.{places, with_line, together, counted, refused_as, kept, added, kept_at, kept_sum}
+use Rattle.build_gathering.specs.Gathered.{places, key_at, with_line, together, counted, refused_as, kept, added, kept_at, kept_sum}
 use Rattle.integer.specs.Among.{Among, here, there}
 use Rattle.build_lines.specs.Stated.{Passes}
 use Rattle.build_lines.proofs.Members.{key_here, key_none, clash_free, either}
 use Rattle.build_lines.proofs.Lines.{line_good}
 use Rattle.build_lines.proofs.Repeat.{share, share_met, share_new}
-use Rattle.build_gathering.proofs.Places.{with_length, with_other, with_same}
+use Rattle.build_gathering.proofs.Places.{lines_length, keys_length, with_other, with_same, key_other, key_same}
 
 -- a line is kept at a place
 pub record MetLine (g : Gathered) (e : Observation) : Type 0 where
@@ -35,7 +35,9 @@ pub record MetLine (g : Gathered) (e : Observation) : Type 0 where
 pub record Follows (n : ℕ) (es : List Observation) (g : Gathered) : Type 0 where
   pub size : g.progress.n ≡ n
   pub done : g.progress.status ≡ Ok tt
-  pub long : length g.seen ≡ 256
+  pub long : length g.seen.lines ≡ 256
+  pub keys_long : length g.seen.keys ≡ 256
+  pub keyed : (p : ℕ) → p < g.progress.count → key_at g.seen p ≡ (kept_at g p).key
   pub count_max : g.progress.count ≤ 256
   pub lines : g.progress.lines ≡ length es
   pub among : (p : ℕ) → p < g.progress.count → Among (kept_at g p) es
@@ -62,6 +64,8 @@ module _ (n : ℕ) (es : List Observation) (g : Gathered) (l : Observation) (fol
         size = fol.size;
         done = fol.done;
         long = fol.long;
+        keys_long = fol.keys_long;
+        keyed = fol.keyed;
         count_max = fol.count_max;
         lines = next;
         among = λ p h. there (fol.among p h);
@@ -92,13 +96,22 @@ module _ (n : ℕ) (es : List Observation) (g : Gathered) (l : Observation) (fol
   last : kept_at grown g.progress.count ≡ l
   last = with_same g.seen g.progress.count l fol.long room
 
+  old_key : (p : ℕ) → p < g.progress.count → key_at grown.seen p ≡ key_at g.seen p
+  old_key p h = key_other g.seen g.progress.count l p (λ e. omega (arith, e))
+
+  last_key : key_at grown.seen g.progress.count ≡ l.key
+  last_key = key_same g.seen g.progress.count l fol.keys_long room
+
   pub new : Passes n l → has_key es l.key ≡ false → added g l ≡ grown → LineStep n es g l
   new good h a =
       passed (line_good n es l good (clash_free es l (λ d j k. absurd (key_none es d h j k))))
       (subst (Follows n (l ∷ es)) (sym a) (record {
         size = fol.size;
         done = fol.done;
-        long = with_length g.seen g.progress.count l ∙ fol.long;
+        long = lines_length g.seen g.progress.count l ∙ fol.long;
+        keys_long = keys_length g.seen g.progress.count l ∙ fol.keys_long;
+        keyed = λ p b. upto (λ (q : ℕ). key_at grown.seen q ≡ (kept_at grown q).key) g.progress.count p (omega arith)
+            (λ q c. old_key q c ∙ fol.keyed q c ∙ ap (λ (z : Observation). z.key) (sym (old q c))) (last_key ∙ ap (λ (z : Observation). z.key) (sym last));
         count_max = omega arith;
         lines = next;
         among = λ p b. upto (λ (q : ℕ). Among (kept_at grown q) (l ∷ es)) g.progress.count p (omega arith) (λ q c. rw (old q c) (there (fol.among q c))) (rw last here);

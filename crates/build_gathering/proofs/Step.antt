@@ -14,7 +14,7 @@ use Rattle.std.specs.Prelude.{Err}
 use Rattle.build_gathering.specs.declared.Gathered.{Gathered}
 use Rattle.build_lines.specs.declared.Observation.{Observation}
 use Rattle.build_lines.specs.Line.{outside_range, same_mark, same_contents, has_key}
-use Rattle.build_gathering.specs.Gathered.{key_at, line_at, counted, is_refused, taken, added, kept_at}
+use Rattle.build_gathering.specs.Gathered.{key_at, counted, is_refused, taken, added, kept_at}
 use Rattle.build_lines.specs.Stated.{Passes}
 use Rattle.build_gathering.proofs.Adding.{taken_outside, taken_same, taken_clash, taken_again, taken_new, added_done}
 use Rattle.build_lines.proofs.Members.{same_line, line_same, has_line, clash_here}
@@ -25,9 +25,8 @@ module _ (n : ℕ) (es : List Observation) (g : Gathered) (l : Observation) (fol
   abbrev test : ℕ → Bool
   test i = eqb (key_at g.seen i) l.key
 
-  key_of : (i : ℕ) {e : Observation} → kept_at g i ≡ e → key_at g.seen i ≡ e.key
-  unfolding line_at
-  key_of i p = ap (λ (z : Observation). z.key) p
+  key_of : (i : ℕ) → i < g.progress.count → {e : Observation} → kept_at g i ≡ e → key_at g.seen i ≡ e.key
+  key_of i b p = fol.keyed i b ∙ ap (λ (z : Observation). z.key) p
 
   pub step : LineStep n es g l
   step = at (outside_range n l) refl (same_mark l) refl
@@ -42,7 +41,7 @@ module _ (n : ℕ) (es : List Observation) (g : Gathered) (l : Observation) (fol
       search good (found i b e p h) = contents (same_contents (kept_at g i) l) refl
         where
           key : (kept_at g i).key ≡ l.key
-          key = sym (key_of i refl) ∙ eqb-true (key_at g.seen i) l.key p
+          key = sym (key_of i b refl) ∙ eqb-true (key_at g.seen i) l.key p
 
           contents : (c : Bool) → same_contents (kept_at g i) l ≡ c → LineStep n es g l
           contents true c = again n es g l fol room early i b (same_line (kept_at g i) l key c) good (taken_is (taken_again (counted g) l (own good.inside) good.apart (all n es g l fol room early) (sym e) b c refl))
@@ -57,7 +56,7 @@ module _ (n : ℕ) (es : List Observation) (g : Gathered) (l : Observation) (fol
           none true c =
               let x = has_line es l.key c in
               let m = fol.met x.line x.among in
-              absurd (clash (test m.index) (eq-eqb (key_at g.seen m.index) l.key (key_of m.index m.is ∙ x.key)) (h m.index m.below))
+              absurd (clash (test m.index) (eq-eqb (key_at g.seen m.index) l.key (key_of m.index m.below m.is ∙ x.key)) (h m.index m.below))
 
       at : (o : Bool) → outside_range n l ≡ o → (s : Bool) → same_mark l ≡ s → LineStep n es g l
       at true o s p = refused (Err (Refused OutOfRange)) 3 [] refl (taken_is (taken_outside (counted g) l (own o) refl)) (rw o)

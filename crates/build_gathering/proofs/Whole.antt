@@ -53,6 +53,8 @@ begun n k short d = record {
   size = refl;
   done = d;
   long = length-replicate {A = Observation} 256 no_observation;
+  keys_long = length-replicate {A = ℕ} 256 0;
+  keyed = λ p b. absurd (omega arith);
   count_max = omega arith;
   lines = refl;
   among = λ p b. absurd (omega arith);

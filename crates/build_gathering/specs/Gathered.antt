@@ -1,8 +1,8 @@
 -- What the adder does, line by line; cited by the contracts of the code alone. The contract of the builder does not speak of it.
---   places c, key_at seen i — the count of kept lines, at most 256; the key of a kept line
---   line_at seen p, with_line seen p l — the line kept at p, and what is kept with l there
+--   places c — the count of kept lines, at most 256
+--   line_at seen p, key_at seen i — the line kept at p, and the key that stands beside the line at i;  with_line seen p l — what is kept with l at p
 --   together p seen — what is gathered, of its two parts
---   met_at g l   — the first kept line that has the key of l
+--   met_at g l   — the first place at which the key of l is kept
 --   with_lines g k, counted g — g with k lines looked at, and with one more;  line_number_of g — the number, from 1, of the line that is refused; 0 where none is
 --   saying p t, refused_as g t — p and g with t said;  kept g l — g with the line l kept
 --   is_refused t — something is said;  when_done t new old — new where nothing is said, else old
@@ -20,6 +20,7 @@ use Rattle.rules.specs.declared.Refusal.TheVariants.{OutOfRange, TooShort}
 use Rattle.build_lines.specs.Order.{Built}
 use Rattle.build_lines.specs.declared.BuildRefusal.TheVariants.{Refused, SameMark, OtherContents}
 use Rattle.build_gathering.specs.declared.Gathered.{Gathered}
+use Rattle.build_gathering.specs.declared.KeptLines.{KeptLines}
 use Rattle.build_gathering.specs.declared.Progress.{Progress}
 use Rattle.build_lines.specs.declared.Observation.{Observation}
 use Rattle.build_lines.specs.Line.{no_observation, outside_range, same_mark, same_contents}
@@ -27,16 +28,16 @@ use Rattle.build_lines.specs.Line.{no_observation, outside_range, same_mark, sam
 abbrev pub places : ℕ → ℕ
 places c = min c 256
 
-unfoldable pub line_at : List Observation → ℕ → Observation
-line_at seen p = get_or seen p no_observation
+unfoldable pub line_at : KeptLines → ℕ → Observation
+line_at seen p = get_or seen.lines p no_observation
 
-abbrev pub key_at : List Observation → ℕ → ℕ
-key_at seen i = (line_at seen i).key
+abbrev pub key_at : KeptLines → ℕ → ℕ
+key_at seen i = get_or seen.keys i 0
 
-unfoldable pub with_line : List Observation → ℕ → Observation → List Observation
-with_line seen p l = set seen p l
+unfoldable pub with_line : KeptLines → ℕ → Observation → KeptLines
+with_line seen p l = record { keys = set seen.keys p l.key; lines = set seen.lines p l }
 
-abbrev pub together : Progress → List Observation → Gathered
+abbrev pub together : Progress → KeptLines → Gathered
 together p seen = record { progress = p; seen = seen }
 
 abbrev pub met_at : Gathered → Observation → ℕ
@@ -93,8 +94,8 @@ opened_as n k short = cond short (Err (Refused TooShort)) (cond (in_range kind.S
 unfoldable pub opening_progress : ℕ → ℕ → Bool → Progress
 opening_progress n k short = record { n = n; count = 0; lines = 0; status = opened_as n k short }
 
-unfoldable pub no_lines : List Observation
-no_lines = replicate 256 no_observation
+unfoldable pub no_lines : KeptLines
+no_lines = record { keys = replicate 256 0; lines = replicate 256 no_observation }
 
 abbrev pub opened : ℕ → ℕ → Bool → Gathered
 opened n k short = together (opening_progress n k short) no_lines
@@ -112,7 +113,7 @@ pub record Proper (l : Observation) : Type 0 where
   pub weight : l.weight ≤ 64
   pub difference : nat_abs l.difference ≤ 2 ^ 16
 
-pub record ProperLines (seen : List Observation) (c : ℕ) : Type 0 where
+pub record ProperLines (seen : KeptLines) (c : ℕ) : Type 0 where
   pub count_max : c ≤ 256
   pub proper : (p : ℕ) → p < c → Proper (line_at seen p)
 

@@ -1,8 +1,7 @@
 // The adder (document 02, Paper 3): field lines are taken one after the other, and those whose key is new are kept.
 #![tactic(auto)]
 
-ghost use Rattle.std.specs.Prelude.{◌≡◌, eqb, Err, position};
-ghost use Rattle.build_lines.specs.declared.Observation.{Observation};
+ghost use Rattle.std.specs.Prelude.{◌≡◌, ℕ, eqb, Err, position};
 ghost use Rattle.build_gathering.specs.Gathered.{together, saying, added, opened_as, opening_progress, no_lines, few, line_number_of};
 
 use build_lines::{BuildRefusal, Observation, has_contents, is_outside_range};
@@ -17,11 +16,19 @@ pub struct Progress {
     pub status: Result<(), BuildRefusal>,
 }
 
-// The lines taken so far. Those whose key no earlier line has are kept in `seen`, the first `count` of it: an array with its count, since there is no heap.
+// The lines that are kept, in places: arrays, since there is no heap. The key of each stands in `keys` too, at the same place: a search goes along `keys`, where
+// several are compared at once, which they are not in steps of a whole line.
+#[derive(Clone, Copy)]
+pub struct KeptLines {
+    pub keys: [u32; 256],
+    pub lines: [Observation; 256],
+}
+
+// The lines taken so far. Those whose key no earlier line has are kept in `seen`, in the first `count` places.
 #[derive(Clone, Copy)]
 pub struct Gathered {
     pub progress: Progress,
-    pub seen: [Observation; 256],
+    pub seen: KeptLines,
 }
 
 // What stands where no line is kept.
@@ -43,16 +50,16 @@ fn refuse(g: Progress, refusal: BuildRefusal) -> Progress
     }
 }
 
-// Where the first of the kept lines stands that has this key.
-fn met_at(kept: &[Observation], key: u32) -> Option<usize>
-    ensures { result ≡ position (λ (e : Observation). eqb e.key key) kept.now }
+// Where the first of the kept lines stands that has this key, by the keys of these lines.
+fn met_at(keys: &[u32], key: u32) -> Option<usize>
+    ensures { result ≡ position (λ (k : ℕ). eqb k key) keys.now }
 {
-    kept.iter().position(|e| e.key == key)
+    keys.iter().position(|&k| k == key)
 }
 
 // The adder: a line more, by the tests in their order, where no line before it is refused; after a refusal no line is looked at. A line whose key is new is kept.
 // Progress and lines are handed in apart, so that the lines are changed where they stand, and never copied.
-pub fn add_observation(mut g: Progress, seen: &mut [Observation; 256], l: Observation) -> Progress
+pub fn add_observation(mut g: Progress, seen: &mut KeptLines, l: Observation) -> Progress
     ensures { together result seen.new ≡ added (together g seen.old) l }
 {
     if g.status.is_err() {
@@ -66,14 +73,15 @@ pub fn add_observation(mut g: Progress, seen: &mut [Observation; 256], l: Observ
         return refuse(g, BuildRefusal::SameMark);
     }
     let end = g.count.min(256);
-    if let Some(at) = met_at(&seen[..end], l.key) {
-        if has_contents(seen[at], l) {
+    if let Some(at) = met_at(&seen.keys[..end], l.key) {
+        if has_contents(seen.lines[at], l) {
             return g;
         }
         return refuse(g, BuildRefusal::OtherContents);
     }
     if end < 256 {
-        seen[end] = l;
+        seen.keys[end] = l.key;
+        seen.lines[end] = l;
         g.count = end + 1;
     }
     g
@@ -119,13 +127,16 @@ pub fn open(n: u32, lines: usize, short: bool) -> Progress
 
 // What is kept before any line.
 #[tactic(auto, unfolding(crate::specs::Gathered::no_lines))]
-pub fn no_lines() -> [Observation; 256]
+pub fn no_lines() -> KeptLines
     ensures { result ≡ no_lines }
 {
-    [NO_OBSERVATION; 256]
+    KeptLines {
+        keys: [0u32; 256],
+        lines: [NO_OBSERVATION; 256],
+    }
 }
 
-pub fn as_gathered(progress: Progress, seen: [Observation; 256]) -> Gathered
+pub fn as_gathered(progress: Progress, seen: KeptLines) -> Gathered
     ensures { result ≡ together progress seen }
 {
     Gathered { progress, seen }

@@ -195,7 +195,9 @@ impl Loader {
         }
         let read = line::read_line(line);
         let form = read.answer?;
-        *values = loader_values::values_of(form, read.numbers.values);
+        let listed = read.numbers.values;
+        *values = listed;
+        loader_values::put_values(form, values);
         self.decide_form(form, read.numbers)
     }
 

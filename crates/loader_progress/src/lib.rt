@@ -96,13 +96,18 @@ fn has(sets: [u32; 5], part: Part, i: u32) -> bool
     loader_bit_set::has_place(set_of(sets, part), i - 1)
 }
 
-// The sets with that form.
+// The sets with that form, by a loop over the five, in which each index is a constant once it is unrolled: at an index that is worked out the sets stand in memory, and
+// whatever copies the loader next waits for that store.
 pub fn with(mut sets: [u32; 5], part: Part, i: u32) -> [u32; 5]
     requires { (1 ≤ i) × (i ≤ 32) }
     ensures { result ≡ marked sets part i }
 {
-    let k = part as usize;
-    sets[k] = loader_bit_set::with_place(sets[k], i - 1);
+    let index = part as usize;
+    for (k, set) in sets.iter_mut().enumerate() {
+        if k == index {
+            *set = loader_bit_set::with_place(*set, i - 1);
+        }
+    }
     sets
 }
 

@@ -84,11 +84,11 @@ pub fn is_miscounted(form: CappedForm, count: usize, n: usize) -> bool
     }
 }
 
-// The numbers that a form puts into a list come first, the tolerance after the right side; those of a row or of an inverse row are the numbers beside it.
-pub fn values_of(form: CappedForm, listed: [i64; 32]) -> [i64; 32]
-    ensures { result ≡ values_in form listed }
+// The numbers that a form puts into a list come first, the tolerance after the right side; those of a row or of an inverse row are the numbers beside it, which stand
+// here already. They are put where they stand: with the list by value a take of one number copies all 32 once more.
+pub fn put_values(form: CappedForm, values: &mut [i64; 32])
+    ensures { values.new ≡ values_in form values.old }
 {
-    let mut values = listed;
     match form {
         CappedForm::Right(_, b, d) => {
             values[0] = b;
@@ -98,7 +98,6 @@ pub fn values_of(form: CappedForm, listed: [i64; 32]) -> [i64; 32]
         CappedForm::Weight(_, w) => values[0] = w,
         _ => {}
     }
-    values
 }
 
 // A number that is 0 to 32.

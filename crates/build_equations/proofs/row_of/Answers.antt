@@ -16,7 +16,7 @@ use Rattle.build_equations.proofs.row_of.Goals.{then-is_at, else-is_at, In-loop-
 below : (c : In-loop-l) → c.loop-l.l-index < c.args.count
 below c = omega (arith, length-take {A = Observation})
 
-line : (c : In-loop-l) → get_or (take c.args.count c.args.seen.now) c.loop-l.l-index no_observation ≡ line_at c.args.seen.now c.loop-l.l-index
+line : (c : In-loop-l) → get_or (take c.args.count c.args.seen.now.lines) c.loop-l.l-index no_observation ≡ line_at c.args.seen.now c.loop-l.l-index
 unfolding line_at
 line c = get_or-take _ _ _ _ (below c)
 
@@ -27,7 +27,7 @@ pub loop-l-preserved : goal.loop-l-preserved
 loop-l-preserved c =
     let t = (goal.at.loop-l-preserved c).In-loop-l in
     let i = c.loop-l in
-    let l = get_or (take c.args.count c.args.seen.now) i.l-index no_observation in
+    let l = get_or (take c.args.count c.args.seen.now.lines) i.l-index no_observation in
     row_next c.args.seen.now c.args.k i.l-index i.invariant
     (subst (λ (z : Observation). Grown c.args.k z i.row c.if-is_at.row) (line t)
     (elim c.if-is_at.branch [

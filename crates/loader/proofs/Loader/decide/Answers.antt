@@ -20,4 +20,4 @@ returns-in_err-form c l e =
 pub returns : goal.returns
 returns c l e =
     let small : c.args.self.n < cap_at = omega arith in
-    decided_form c.args.self l c.args.line.now (e ∙ c.if-short.false) (sym c.is_ended.ensures ∙ c.if-is_ended.false) c.decide_form.result small c.read_line-read.ensures (search rules) c.values_of.ensures c.decide_form.ensures
+    decided_form c.args.self l c.args.line.now (e ∙ c.if-short.false) (sym c.is_ended.ensures ∙ c.if-is_ended.false) c.decide_form.result small c.read_line-read.ensures (search rules) c.put_values.ensures c.decide_form.ensures
