@@ -8,7 +8,7 @@ use convert_spec::ConversionRefusal;
 use converter::convert_file;
 use listing_refusal::put_refusal;
 use listing_text::put_list;
-use program_input::read_front;
+use program_input::read_front_plain;
 use std::io::Stderr;
 
 fn report(errors: Stderr, text: &[u8]) {
@@ -54,7 +54,7 @@ fn print_text(rt: &HostRuntime, file: &[u8]) {
 
 fn main(rt: HostRuntime) {
     let mut text = [0u8; 65536];
-    match read_front(&mut rt.stdin(), &mut text) {
+    match read_front_plain(&mut rt.stdin(), &mut text) {
         Ok(n) => print_text(&rt, &text[..n]),
         Err(_) => report(rt.stderr(), b"convert: the input could not be read\n"),
     }

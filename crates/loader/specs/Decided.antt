@@ -5,20 +5,21 @@
 --   fits x         — its numbers are in their ranges, i in 1 to 32
 --   AcceptedOf   — what an accepted form gives: nothing is said, and there are the loader then and the form to write
 --   DecidedIn      — what is decided of a form: that, or the refusal that is said
---   AcceptedAt   — what an accepted line gives, with the lists l: nothing is said, and there are the loader then, room for the form to write, and what the numbers
---                  vs leave, written as that form
+--   AcceptedAt   — what an accepted line gives, with the lists l: nothing is said, and there are the loader then, the numbers vs of its form, room for the form to
+--                  write, and what the numbers leave, written as that form
 --   DecidedFor     — what is decided of a line, with the lists l: that, or the refusal that is said
 --   DecidedAs      — that, with any lists of which one is too short or none is
-use Rattle.std.specs.Prelude.{Bool, true, false, ◌&&◌, List, [], ◌≡◌, ℕ, ℤ, Result, Err, MatchResult}
+use Rattle.std.specs.Prelude.{Bool, true, false, ◌&&◌, List, [], ◌≡◌, ℕ, ℤ, Result, Ok, Err, MatchResult}
 use Rattle.rules.specs.Order.{verdict}
 use Rattle.rules.specs.Range.{in_range}
 use Rattle.rules.specs.Refusal.{code}
 use Rattle.rules.specs.declared.Kind.TheVariants as kind
 use Rattle.rules.specs.declared.Refusal.{Refusal}
 use Rattle.line_parts.specs.declared.CappedForm.{CappedForm}
+use Rattle.line_parts.specs.Line.{line_of}
 use Rattle.line_form.specs.declared.Numbers.{Numbers}
 use Rattle.loader_values.specs.Item.{placed}
-use Rattle.loader_values.specs.Capped.{item_in, outside_in, miscounted_in}
+use Rattle.loader_values.specs.Capped.{item_in, outside_in, miscounted_in, values_in}
 use Rattle.loader_values.specs.declared.Item.{Item}
 use Rattle.loader_values.specs.declared.Item.TheVariants.{Problem, Scale, Of, End}
 use Rattle.loader_values.specs.declared.Part.TheVariants.{Weight}
@@ -67,6 +68,7 @@ DecidedIn d m z r = MatchResult r (AcceptedOf d m z) (λ (x : Refusal). code (Er
 pub record AcceptedAt (d : Loader) (l : Lists) (line : List ℕ) (vs : List ℤ) (a : AcceptedForm) : Type 0 where
   pub says : [] ≡ line_answer d l line
   pub loader : a.loader ≡ loader_after d l line
+  pub values : (m : CappedForm) → (line_of line).answer ≡ Ok m → vs ≡ values_in m (line_of line).numbers.values
   pub room : Rooms d.n a.item l
   pub lists : closed d.n (set_of d.sets Weight) a.item (pasted_all d.n a.item vs l) ≡ lists_after d l line
 

@@ -4,7 +4,7 @@
 ghost use Rattle.std.specs.Prelude.{◌≡◌};
 ghost use Rattle.listing.specs.Listing.{listing_of};
 
-use program_input::read_front;
+use program_input::read_front_plain;
 use std::io::Stderr;
 
 fn report(errors: Stderr, text: &[u8]) {
@@ -29,7 +29,7 @@ fn print_listing(rt: &HostRuntime, file: &[u8]) {
 
 fn main(rt: HostRuntime) {
     let mut text = [0u8; 65536];
-    match read_front(&mut rt.stdin(), &mut text) {
+    match read_front_plain(&mut rt.stdin(), &mut text) {
         Ok(n) => print_listing(&rt, &text[..n]),
         Err(_) => report(rt.stderr(), b"register: the input could not be read\n"),
     }
