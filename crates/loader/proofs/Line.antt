@@ -1,7 +1,7 @@
 -- What is decided of a line, in the shape in which the code meets it.
 --   decided_short, decided_ended — 8 and 14
 --   decided_unread — 1 and 2;  decided_form — what is decided of its form, capped, is right for the line
---   Listed vs      — vs has the numbers of the line's form, where it has one
+--   numbers_for    — the numbers of the form that was read are those of the line
 --   refused_so     — a refused line leaves everything
 use mathlib.Core.Path.{◌≡◌, refl, sym, ap, ◌∙◌}
 use mathlib.Core.Bool.{Bool, true, false, cond}
@@ -30,17 +30,13 @@ use Rattle.loader.specs.declared.AcceptedForm.{AcceptedForm}
 use Rattle.loader.specs.declared.Loader.{Loader}
 use Rattle.loader.specs.Answer.{line_answer}
 use Rattle.loader.specs.Taken.{loader_after, lists_after, TakenAs}
-use Rattle.loader.specs.Decided.{code_in, DecidedIn, DecidedFor}
+use Rattle.loader.specs.Decided.{code_in, DecidedIn, NumbersFor, DecidedFor}
 use Rattle.loader.proofs.Exact.{form_code, answer_form, code_capped, exact_loader, exact_room, exact_lists}
 
-module _ (line : List ℕ) where
-  abbrev Listed : List ℤ → Type 0
-  Listed vs = (m : CappedForm) → (line_of line).answer ≡ Ok m → vs ≡ values_in m (line_of line).numbers.values
-
-  listed : {r : Line} {m : CappedForm} {vs : List ℤ} → r ≡ line_of line → r.answer ≡ Ok m → vs ≡ values_in m r.numbers.values → Listed vs
-  listed {r} {m} e h v k a =
-      let x : m ≡ k = cc in
-      rw (← x, ← e) v
+numbers_for : (line : List ℕ) {r : Line} {m : CappedForm} {vs : List ℤ} → r ≡ line_of line → r.answer ≡ Ok m → vs ≡ values_in m r.numbers.values → NumbersFor line vs
+numbers_for line {r} {m} e h v k a =
+    let x : m ≡ k = cc in
+    v ∙ ap (λ (j : CappedForm). values_in j r.numbers.values) x ∙ ap (λ (q : Line). values_in k q.numbers.values) e
 
 module _ (d : Loader) (l : Lists) (line : List ℕ) where
   pub refused_so : {r : Refusal} → code (Err r) ≡ line_answer d l line → TakenAs d line l (record { loader = d; outcome = Err r }) l
@@ -73,7 +69,7 @@ module _ (d : Loader) (l : Lists) (line : List ℕ) where
         whole : code_in d (capped_form f) (numbers_in f).count (numbers_in f).inside ≡ line_answer d l line
         whole = code_capped d f n ∙ sym (answer_form d l line f a b c e)
 
-        of_form_lem : {vs : List ℤ} (t : Result AcceptedForm Refusal) → Listed line vs → vs ≡ values_in (capped_form f) (numbers_in f).values
+        of_form_lem : {vs : List ℤ} (t : Result AcceptedForm Refusal) → NumbersFor line vs → vs ≡ values_in (capped_form f) (numbers_in f).values
             → DecidedIn d (capped_form f) (numbers_in f) t → DecidedFor d l line vs t
         unfolding loader_after lists_after
         of_form_lem (Err r) w v h = h ∙ whole
@@ -89,8 +85,8 @@ module _ (d : Loader) (l : Lists) (line : List ℕ) where
             }
 
       by_reading : {m : CappedForm} {z : Numbers} {vs : List ℤ} (t : Result AcceptedForm Refusal) (u : Bool) → ltb 320 (length line) ≡ u → (o : Option Form) → reading line ≡ o
-          → (cond u (refused TooLong) (of_reading o)).answer ≡ Ok m → (cond u (refused TooLong) (of_reading o)).numbers ≡ z → d.n < cap_at → Listed line vs → vs ≡ values_in m z.values
-          → DecidedIn d m z t → DecidedFor d l line vs t
+          → (cond u (refused TooLong) (of_reading o)).answer ≡ Ok m → (cond u (refused TooLong) (of_reading o)).numbers ≡ z → d.n < cap_at → NumbersFor line vs
+          → vs ≡ values_in m z.values → DecidedIn d m z t → DecidedFor d l line vs t
       by_reading t true c o e h k n w v g = let x : ◌≡◌ {A = ℕ} 0 1 = cc in absurd (omega arith)
       by_reading t false c none e h k n w v g = let x : ◌≡◌ {A = ℕ} 0 1 = cc in absurd (omega arith)
       by_reading {m} {z} t false c (some f) e h k n w v g =
@@ -102,4 +98,4 @@ module _ (d : Loader) (l : Lists) (line : List ℕ) where
       unfolding line_of
       decided_form t n e h v g =
           by_reading t (ltb 320 (length line)) refl (reading line) refl (ap (λ (x : Line). x.answer) (sym e) ∙ h) (ap (λ (x : Line). x.numbers) (sym e)) n
-          (listed line e h v) v g
+          (numbers_for line e h v) v g

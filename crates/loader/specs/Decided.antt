@@ -5,6 +5,7 @@
 --   fits x         — its numbers are in their ranges, i in 1 to 32
 --   AcceptedOf   — what an accepted form gives: nothing is said, and there are the loader then and the form to write
 --   DecidedIn      — what is decided of a form: that, or the refusal that is said
+--   NumbersFor   — the numbers vs are those of the form of the line, where it is a form
 --   AcceptedAt   — what an accepted line gives, with the lists l: nothing is said, and there are the loader then, the numbers vs of its form, room for the form to
 --                  write, and what the numbers leave, written as that form
 --   DecidedFor     — what is decided of a line, with the lists l: that, or the refusal that is said
@@ -65,10 +66,13 @@ pub record AcceptedOf (d : Loader) (m : CappedForm) (z : Numbers) (a : AcceptedF
 abbrev pub DecidedIn : Loader → CappedForm → Numbers → Result AcceptedForm Refusal → Type 0
 DecidedIn d m z r = MatchResult r (AcceptedOf d m z) (λ (x : Refusal). code (Err x) ≡ code_in d m z.count z.inside)
 
+abbrev pub NumbersFor : List ℕ → List ℤ → Type 0
+NumbersFor line vs = (m : CappedForm) → (line_of line).answer ≡ Ok m → vs ≡ values_in m (line_of line).numbers.values
+
 pub record AcceptedAt (d : Loader) (l : Lists) (line : List ℕ) (vs : List ℤ) (a : AcceptedForm) : Type 0 where
   pub says : [] ≡ line_answer d l line
   pub loader : a.loader ≡ loader_after d l line
-  pub values : (m : CappedForm) → (line_of line).answer ≡ Ok m → vs ≡ values_in m (line_of line).numbers.values
+  pub values : NumbersFor line vs
   pub room : Rooms d.n a.item l
   pub lists : closed d.n (set_of d.sets Weight) a.item (pasted_all d.n a.item vs l) ≡ lists_after d l line
 

@@ -1,5 +1,5 @@
-// Standard input, read into a buffer. Where a read fails, `fill`, `skip_rest` and `read_front` tell why. The programs print that it did and no more: they call the
-// plain forms, whose answer has no room for a reason.
+// Standard input, read into a buffer. Where a read fails, `fill`, `skip_rest` and `read_front` tell why. register and convert print that it did and no more: they
+// call the plain forms, whose answer has no room for a reason.
 #![tactic(auto)]
 
 ghost use Rattle.std.specs.Prelude.{◌≤◌, ◌≡◌, length, take};
